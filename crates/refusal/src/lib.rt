@@ -1,0 +1,22 @@
+// Why a call is turned down: a reason from a fixed table, the layer that refused, and the place.
+mod layer;
+mod reason;
+mod text;
+
+use crate::layer::LayerDebug;
+use crate::layer::LayerPartialEq;
+use crate::reason::ReasonDebug;
+use crate::reason::ReasonPartialEq;
+pub use layer::Layer;
+pub use reason::Reason;
+pub use text::LayerDisplay;
+pub use text::ReasonDisplay;
+pub use text::RefusalDisplay;
+
+// A refusal. The place is 0 unless the reason names one: a line, a cite, a job, or the length needed.
+#[derive(Clone, Copy, PartialEq, Eq, Debug)]
+pub struct Refusal {
+    pub reason: Reason,
+    pub layer: Layer,
+    pub place: u32,
+}
