@@ -1,0 +1,12 @@
+pub mod Adding
+pub mod Counts
+pub mod Every
+pub mod Fewer
+pub mod First
+pub mod Gathered
+pub mod Hyperperiod
+pub mod Lawful
+pub mod Listed
+pub mod Multiples
+pub mod Rests
+pub mod Rising

@@ -1,0 +1,6 @@
+pub mod Calls
+pub mod Common
+pub mod Demand
+pub mod Laws
+pub mod Of
+pub mod Rest

@@ -1,0 +1,33 @@
+-- How the answers of one list of checks carry over to another.
+use Rattle.refusal.specs.Answers.{Check, refusalOf, Answered}
+use Rattle.refusal.specs.declared.Refusal.{Refusal}
+use Rattle.std.specs.declared.option.Option.the-variants.{None, Some}
+use Rattle.std.specs.declared.result.Result.{Result}
+use Rattle.std.specs.declared.result.Result.the-variants.{Ok, Err}
+use mathlib.Core.Bool.{Bool, true, false}
+use mathlib.Core.List.{List, [], _∷_, _++_}
+use mathlib.Core.Path.{_≡_, refl, sym, _∙_}
+use native.Mathlib.Omega.{arith}
+
+-- checks that pass leave the answer to those behind them
+pub refusal-behind : (cs ds : List Check) → refusalOf cs ≡ None → refusalOf (cs ++ ds) ≡ refusalOf ds
+refusal-behind [] ds e = refl
+refusal-behind (c ∷ cs) ds e = go (c .fails) refl (refusal-behind cs ds)
+  where
+    go : (b : Bool) → c .fails ≡ b → (refusalOf cs ≡ None → refusalOf (cs ++ ds) ≡ refusalOf ds) → refusalOf (c ∷ (cs ++ ds)) ≡ refusalOf ds
+    go true f later = absurd (grind arith)
+    go false f later = let behind = later (grind arith) in grind arith
+
+-- a refusal of the first checks stands
+pub refusal-first : (cs ds : List Check) (e : Refusal) → refusalOf cs ≡ Some e → refusalOf (cs ++ ds) ≡ Some e
+refusal-first [] ds e h = absurd (grind arith)
+refusal-first (c ∷ cs) ds e h = go (c .fails) refl (refusal-first cs ds e)
+  where
+    go : (b : Bool) → c .fails ≡ b → (refusalOf cs ≡ Some e → refusalOf (cs ++ ds) ≡ Some e) → refusalOf (c ∷ (cs ++ ds)) ≡ Some e
+    go true f later = grind arith
+    go false f later = let behind = later (grind arith) in grind arith
+
+-- an answer by some checks is one by checks that refuse alike
+pub answered-alike : {A : Type 0} (r : Result A Refusal) (cs ds : List Check) (P Q : A → Type 0) → refusalOf cs ≡ refusalOf ds → ((x : A) → P x → Q x) → Answered r cs P → Answered r ds Q
+answered-alike (Ok x) cs ds P Q same gives h = (sym same ∙ h .0, gives x (h .1))
+answered-alike (Err e) cs ds P Q same gives h = sym same ∙ h
