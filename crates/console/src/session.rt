@@ -1,0 +1,97 @@
+// One conversation: the supply that is open, and the answer to each line.
+use crate::survey::survey;
+use crate::trouble::Trouble;
+use crate::trouble::TroubleFromAllocError;
+use crate::words::rows;
+use std::alloc::AllocError;
+use std::alloc::Global;
+use supply::Supply;
+use supply::Whole;
+use supply::WholeSupply;
+
+const OPEN: &str = "open whole";
+
+const COUNT: &str = "count PHASE SLOTS, with a phase up to 4294967295 and up to 65535 slots";
+
+const LEAST: &str = "least SLOTS, with up to 65535 slots";
+
+// The commands, one to a line.
+const HELP: &str = "open whole
+count PHASE SLOTS
+least SLOTS
+survey T/D/C T/D/C ..
+help
+";
+
+// What the console holds between two lines.
+#[derive(Drop)]
+pub(crate) struct Session {
+    supply: Whole,
+}
+
+impl Session {
+    // A new conversation, on the whole processor.
+    pub(crate) fn new() -> Session {
+        Session { supply: Whole }
+    }
+
+    // The answer to one line of input, whatever bytes it holds. A blank line and a comment get none.
+    pub(crate) fn answer(&mut self, heap: Global, line: &[u8]) -> Result<String, AllocError> {
+        let line = line.trim_ascii();
+        if line.is_empty() || line.starts_with(b"#") {
+            return Ok(String::new(heap));
+        }
+        let Ok(text) = std::str::from_utf8(line) else {
+            let shown = line.escape_ascii();
+            return format!(
+                heap,
+                "unknown: {shown}: the line is no text; help lists the commands\n"
+            );
+        };
+        let words: Vec<&str> = text.split_ascii_whitespace().collect(heap)?;
+        match self.obey(heap, words.as_slice()) {
+            Ok(answer) => Ok(answer),
+            Err(Trouble::Usage(usage)) => format!(heap, "unknown: {text}: {usage}\n"),
+            Err(Trouble::Memory) => Err(AllocError),
+        }
+    }
+
+    // What a command answers.
+    fn obey(&mut self, heap: Global, words: &[&str]) -> Result<String, Trouble> {
+        match words {
+            ["help"] => Ok(String::from_str(heap, HELP)?),
+            ["open", "whole"] => self.open(heap),
+            ["open", ..] => Err(Trouble::Usage(OPEN)),
+            ["count", phase, slots] => self.count(heap, phase, slots),
+            ["count", ..] => Err(Trouble::Usage(COUNT)),
+            ["least", slots] => self.least(heap, slots),
+            ["least", ..] => Err(Trouble::Usage(LEAST)),
+            ["survey", lines @ ..] => Ok(
+                survey(heap, &self.supply, rows(heap, lines)?.as_slice())?,
+            ),
+            _ => Err(Trouble::Usage("help lists the commands")),
+        }
+    }
+
+    fn open(&mut self, heap: Global) -> Result<String, Trouble> {
+        self.supply = Whole;
+        let phases = self.supply.phases();
+        Ok(format!(heap, "opened phases {phases}\n")?)
+    }
+
+    fn count(&self, heap: Global, phase: &str, slots: &str) -> Result<String, Trouble> {
+        let (Ok(phase), Ok(n)) = (phase.parse::<u32>(), slots.parse::<u16>()) else {
+            return Err(Trouble::Usage(COUNT));
+        };
+        let given = self.supply.count(phase, n);
+        Ok(format!(heap, "count {given}\n")?)
+    }
+
+    fn least(&self, heap: Global, slots: &str) -> Result<String, Trouble> {
+        let Ok(n) = slots.parse::<u16>() else {
+            return Err(Trouble::Usage(LEAST));
+        };
+        let (given, phase) = self.supply.least(n);
+        Ok(format!(heap, "least {given} phase {phase}\n")?)
+    }
+}
