@@ -10,7 +10,7 @@ use lib.Dec.{ltb, leb, eqb}
 use mathlib.Core.Bool.{true, false, cond}
 use mathlib.Core.Logic.{_⊎_, ⊎-elim}
 use mathlib.Core.Path.{_≡_, refl, sym, _∙_, ap}
-use native.Mathlib.Nat.{zero-mul, add-mul, div-eq-of-lt, add-div-right, div-mul-le-self, lt-div-mul-add, le-div-iff-mul-le, div-lt-iff-lt-mul, mul-le-mul-right, mul-mod-left, div-add-mod'}
+use native.Mathlib.Nat.{zero-mul, add-mul, div-eq-of-lt, add-div-right, div-mul-le-self, lt-div-mul-add, le-div-iff-mul-le, div-lt-iff-lt-mul, mul-assoc, mul-le-mul-right, mul-mod-left, div-add-mod'}
 use native.Mathlib.Omega.{arith}
 
 module _ (T D : ℕ) (some : 1 ≤ D) (within : D ≤ T) where
@@ -88,4 +88,19 @@ module _ (row : Row) (ok : Lawful row) where
     work-none = zero-mul (row .cost);
     work-monotone = λ m n le. mul-le-mul-right (row .cost) le;
     work-splits = λ m n. omega (arith, add-mul m n (row .cost));
+    work-scales = λ q n. sym (mul-assoc q n (row .cost));
   }
+
+-- an instant at which no job falls due adds none to the count
+pub counted-step : (row : Row) → Lawful row → (t : ℕ) → due (suc t) row ≡ false → count row (suc t) ≡ count row t
+counted-step row ok t quiet =
+    let T = row .period in
+    let D = row .deadline in
+    let n = counted T D t in
+    let below = counted-below T D (ok .0) (ok .1) t in
+    let no-fewer = counted-monotone T D (ok .0) (ok .1) t (suc t) (omega arith) in
+    ⊎-elim (λ (l : suc t + (T - D) < suc n * T). let no-more = counted-least T D (ok .0) (ok .1) (suc t) n l in omega arith) (λ (g : suc n * T ≤ suc t + (T - D)).
+    let at : suc t ≡ n * T + D = omega (arith, add-mul n 1 T) in
+    let is-due = turns-due row ok n in
+    let same = ap (λ x. due x row) at in
+    absurd (grind arith)) (cases-lt (suc t + (T - D)) (suc n * T))

@@ -22,6 +22,8 @@ pub record Line-laws (row : Row) : Type 0 where
   pub work-none : work row 0 ≡ 0
   pub work-monotone : (m n : ℕ) → m ≤ n → work row m ≤ work row n
   pub work-splits : (m n : ℕ) → work row (m + n) ≤ work row m + work row n
+  -- and q times as many jobs bring q times the work
+  pub work-scales : (q n : ℕ) → q * work row n ≡ work row (q * n)
 
 -- The hyperperiod is the least common multiple of the periods, and a first rest point is there, no later.
 pub record Rest-laws (rows : List Row) : Type 0 where

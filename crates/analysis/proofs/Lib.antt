@@ -1,0 +1,4 @@
+pub mod Asking
+pub mod Certificates
+pub mod Costs
+pub mod Watching

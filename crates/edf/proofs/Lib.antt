@@ -1,0 +1,15 @@
+pub mod Sums
+pub mod Service
+pub mod DoubleCount
+pub mod Law
+pub mod Lateness
+pub mod Agreement
+pub mod Steps
+pub mod Crowding
+pub mod BusyWindow
+pub mod Meeting
+pub mod Construction
+pub mod Optimal
+pub mod Run
+pub mod Reading
+pub mod Underway
