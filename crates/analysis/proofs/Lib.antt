@@ -2,3 +2,4 @@ pub mod Asking
 pub mod Certificates
 pub mod Costs
 pub mod Watching
+pub mod Windows

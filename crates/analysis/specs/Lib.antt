@@ -1,1 +1,2 @@
+pub mod Legal
 pub mod Watching
