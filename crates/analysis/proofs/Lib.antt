@@ -3,3 +3,4 @@ pub mod Certificates
 pub mod Costs
 pub mod Watching
 pub mod Windows
+pub mod Witness

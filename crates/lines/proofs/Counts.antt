@@ -10,7 +10,7 @@ use lib.Dec.{ltb, leb, eqb}
 use mathlib.Core.Bool.{true, false, cond}
 use mathlib.Core.Logic.{_⊎_, ⊎-elim}
 use mathlib.Core.Path.{_≡_, refl, sym, _∙_, ap}
-use native.Mathlib.Nat.{zero-mul, add-mul, div-eq-of-lt, add-div-right, div-mul-le-self, lt-div-mul-add, le-div-iff-mul-le, div-lt-iff-lt-mul, mul-assoc, mul-le-mul-right, mul-mod-left, div-add-mod'}
+use native.Mathlib.Nat.{zero-mul, add-mul, div-eq-of-lt, add-div-right, div-mul-le-self, lt-div-mul-add, le-div-iff-mul-le, div-lt-iff-lt-mul, lt-of-mul-lt-mul-right, mul-assoc, mul-le-mul-right, mul-mod-left, div-add-mod'}
 use native.Mathlib.Omega.{arith}
 
 module _ (T D : ℕ) (some : 1 ≤ D) (within : D ≤ T) where
@@ -104,3 +104,21 @@ counted-step row ok t quiet =
     let is-due = turns-due row ok n in
     let same = ap (λ x. due x row) at in
     absurd (grind arith)) (cases-lt (suc t + (T - D)) (suc n * T))
+
+-- and one at which a job falls due adds one
+pub counted-up : (row : Row) → Lawful row → (t : ℕ) → due (suc t) row ≡ true → count row (suc t) ≡ suc (count row t)
+counted-up row ok t is-due =
+    let T = row .period in
+    let D = row .deadline in
+    let turn = due-turns row ok (suc t) is-due in
+    let k = turn .0 in
+    let at : suc t ≡ k * T + D = turn .1 in
+    let above = counted-below T D (ok .0) (ok .1) (suc t) in
+    let below = counted-below T D (ok .0) (ok .1) t in
+    let before : counted T D t ≤ k = counted-least T D (ok .0) (ok .1) t k (omega (arith, add-mul k 1 T)) in
+    let then : counted T D (suc t) ≤ suc k = counted-least T D (ok .0) (ok .1) (suc t) (suc k) (omega (arith, add-mul k 1 T, add-mul (suc k) 1 T)) in
+    let wide : suc k * T < suc (counted T D (suc t)) * T = omega (arith, add-mul k 1 T) in
+    let no-fewer : suc k < suc (counted T D (suc t)) = lt-of-mul-lt-mul-right T wide in
+    let near : k * T < suc (counted T D t) * T = omega (arith, add-mul k 1 T) in
+    let so-many : k < suc (counted T D t) = lt-of-mul-lt-mul-right T near in
+    omega arith
