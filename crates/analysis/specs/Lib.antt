@@ -1,2 +1,5 @@
+pub mod History
 pub mod Legal
+pub mod Theorems
+pub mod Verdict
 pub mod Watching
