@@ -1,1 +1,5 @@
+pub mod Bits
 pub mod Least
+pub mod Patterns
+pub mod Piles
+pub mod Rows
