@@ -169,4 +169,3 @@ module _ (rows : List Row) (jobs : List Job) (legal : Legal rows jobs) (ok : All
       let exchanged = sum-exchange (line-charge a d) (length jobs) (length rows) in
       let lines = sum-le (λ i. sum (λ k. line-charge a d k i) (length jobs)) (λ i. work (getD rows i no-row) (count (getD rows i no-row) (d - a))) (length rows) (λ i l. line-load a d i le l) in
       omega (arith, demand-places rows (d - a))
-

@@ -1,5 +1,6 @@
 // Why the verdict is right: exact watch lists, legal release lists and histories. Each function carries a theorem, and does nothing.
 mod theorems;
+
 pub use theorems::cut_exact;
 pub use theorems::full_list_exact;
 pub use theorems::histories;

@@ -1,3 +1,4 @@
 // The run of a job list: earliest deadline first, slot by slot.
 mod job;
+
 pub use job::Job;

@@ -1,3 +1,4 @@
+pub mod Bottoms
 pub mod Bits
 pub mod Least
 pub mod Patterns

@@ -1,4 +1,5 @@
 pub mod Meaning
+pub mod Named
 pub mod Making
 pub mod Row
 pub mod Share

@@ -1,5 +1,6 @@
 // Supplies of slots: which milliseconds of the processor the gateway may use.
 mod laws;
+mod named;
 mod pattern;
 mod share;
 mod supply;
@@ -9,6 +10,10 @@ mod whole;
 pub use laws::least_laws;
 pub use laws::pattern_laws;
 pub use laws::row_laws;
+pub use named::Bottom;
+pub use named::BottomSupply;
+pub use named::Named;
+pub use named::NamedSupply;
 pub use share::Share;
 pub use share::ShareRefused;
 pub use share::ShareSupply;
