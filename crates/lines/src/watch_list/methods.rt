@@ -29,7 +29,7 @@ impl WatchList {
     pub fn len(&self) -> usize
         ensures { λ r. ⌜ r ≡ length (watched (now (self .entry))) ⌝ }
     {
-        self.len
+        self.as_slice().len()
     }
 
     // Whether d is watched.
