@@ -1,5 +1,6 @@
 // The roster console: commands on standard input, one to a line, and what was done on standard output.
 mod session;
+mod shown;
 mod survey;
 mod trouble;
 mod words;

@@ -1,4 +1,5 @@
 // One conversation: the supply that is open, and the answer to each line.
+use crate::shown::shown;
 use crate::survey::survey;
 use crate::trouble::Trouble;
 use crate::trouble::TroubleFromAllocError;
@@ -8,6 +9,8 @@ use std::alloc::Global;
 use supply::Supply;
 use supply::Whole;
 use supply::WholeSupply;
+
+const NO_TEXT: &str = "the line is no text; help lists the commands";
 
 const OPEN: &str = "open whole";
 
@@ -41,19 +44,23 @@ impl Session {
         if line.is_empty() || line.starts_with(b"#") {
             return Ok(String::new(heap));
         }
-        let Ok(text) = std::str::from_utf8(line) else {
-            let shown = line.escape_ascii();
-            return format!(
-                heap,
-                "unknown: {shown}: the line is no text; help lists the commands\n"
-            );
-        };
-        let words: Vec<&str> = text.split_ascii_whitespace().collect(heap)?;
-        match self.obey(heap, words.as_slice()) {
+        match self.obey_line(heap, line) {
             Ok(answer) => Ok(answer),
-            Err(Trouble::Usage(usage)) => format!(heap, "unknown: {text}: {usage}\n"),
+            Err(Trouble::Usage(usage)) => {
+                let shown = shown(heap, line)?;
+                format!(heap, "unknown: {shown}: {usage}\n")
+            }
             Err(Trouble::Memory) => Err(AllocError),
         }
+    }
+
+    // What the words of a line answer.
+    fn obey_line(&mut self, heap: Global, line: &[u8]) -> Result<String, Trouble> {
+        let Ok(text) = std::str::from_utf8(line) else {
+            return Err(Trouble::Usage(NO_TEXT));
+        };
+        let words: Vec<&str> = text.split_ascii_whitespace().collect(heap)?;
+        self.obey(heap, words.as_slice())
     }
 
     // What a command answers.
