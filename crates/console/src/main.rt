@@ -1,8 +1,10 @@
 // The roster console: commands on standard input, one to a line, and what was done on standard output.
+mod opening;
 mod session;
 mod shown;
 mod survey;
 mod trouble;
+mod usage;
 mod words;
 
 use session::Session;

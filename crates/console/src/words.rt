@@ -2,10 +2,9 @@
 use crate::trouble::Trouble;
 use crate::trouble::TroubleFromAllocError;
 use crate::trouble::TroubleFromRefused;
+use crate::usage::Usage;
 use lines::Row;
 use std::alloc::Global;
-
-const SURVEY: &str = "survey T/D/C T/D/C .., period, deadline and cost of each line, up to 65535";
 
 // A line of the roster from T/D/C: period, deadline and cost.
 fn row(word: &str) -> Option<Row> {
@@ -23,7 +22,7 @@ pub(crate) fn rows(heap: Global, words: &[&str]) -> Result<Vec<Row>, Trouble> {
     let mut rows = Vec::new(heap);
     for word in words {
         let Some(row) = row(word) else {
-            return Err(Trouble::Usage(SURVEY));
+            return Err(Trouble::Usage(Usage::Survey));
         };
         rows.push(row)?;
     }
