@@ -2,6 +2,7 @@ pub mod Asking
 pub mod Certificates
 pub mod Costs
 pub mod Exactness
+pub mod Instance
 pub mod Reaching
 pub mod Watching
 pub mod Windows

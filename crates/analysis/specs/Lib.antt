@@ -1,3 +1,4 @@
+pub mod Example
 pub mod History
 pub mod Legal
 pub mod Theorems

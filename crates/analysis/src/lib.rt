@@ -2,6 +2,7 @@
 mod theorems;
 
 pub use theorems::cut_exact;
+pub use theorems::example;
 pub use theorems::full_list_exact;
 pub use theorems::histories;
 pub use theorems::verdict_exact;

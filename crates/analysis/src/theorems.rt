@@ -1,3 +1,4 @@
+ghost use Rattle.analysis.specs.Example.{Example};
 ghost use Rattle.analysis.specs.Theorems.{Cut-exact, Full-list-exact, Lines-follow, Reached-exact, Verdict-exact, Window-bound, Witness-asks};
 
 // It is enough to look at the deadlines up to the first rest point.
@@ -30,3 +31,9 @@ pub fn histories()
 pub fn verdict_exact()
     ensures { λ _. ⌜ Verdict-exact ⌝ }
 {}
+
+// The theorems speak of something: lines, a history, a verdict, a legal list and a certificate are there.
+pub fn example()
+    ensures { λ _. ⌜ Example ⌝ }
+{
+}
