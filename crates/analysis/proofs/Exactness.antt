@@ -20,7 +20,7 @@ use Rattle.lines.proofs.Listed.{deadlines-only, deadlines-bounded}
 use Rattle.lines.specs.Demand.{All-lawful, demand}
 use Rattle.lines.specs.Rest.{some, due, deadlines}
 use Rattle.lines.specs.declared.row.Row.{Row}
-use Rattle.run.specs.Timed.{timed, all-timed}
+use Rattle.run.specs.Timed.{timed, timed-list}
 use Rattle.run.specs.declared.job.Job.{Job}
 use Rattle.std.proofs.shelf.Lists.{length-map}
 use Rattle.std.specs.declared.option.Option.{Option}
@@ -41,7 +41,7 @@ same-some t u e = cc
 
 module _ (m : Meaning) (law : Lawful m) (rows : List Row) (ok : All-lawful rows) where
   -- where demand is within supply up to b, every window up to b has room for a legal list
-  room-to : (b : ℕ) → ((t : ℕ) → t ≤ b → Within m rows t) → (jobs : List Job) → Legal rows jobs → (p : ℕ) → p < m .phases → Room-to (m .count p) (all-timed rows jobs) b
+  room-to : (b : ℕ) → ((t : ℕ) → t ≤ b → Within m rows t) → (jobs : List Job) → Legal rows jobs → (p : ℕ) → p < m .phases → Room-to (m .count p) (timed-list rows jobs) b
   room-to b within jobs legal p there a d le by =
       let asked = window-bound rows jobs legal ok a d le in
       let sure = within (d - a) (omega arith) in
@@ -52,18 +52,18 @@ module _ (m : Meaning) (law : Lawful m) (rows : List Row) (ok : All-lawful rows)
 
   met-all : ((t : ℕ) → Within m rows t) → (jobs : List Job) → Legal rows jobs → (p : ℕ) → p < m .phases → Met-in m rows jobs p
   met-all within jobs legal p there =
-      feasibility (m .count p) (phase-counts m law p there) (all-timed rows jobs) .1 (λ a d le. room-to d (λ t h. within t) jobs legal p there a d le (omega arith))
+      feasibility (m .count p) (phase-counts m law p there) (timed-list rows jobs) .1 (λ a d le. room-to d (λ t h. within t) jobs legal p there a d le (omega arith))
 
-  run-met : ((t : ℕ) → Within m rows t) → (jobs : List Job) → Legal rows jobs → (p : ℕ) → p < m .phases → (b : ℕ) (σ : Schedule) (outcome : Outcome) → Runs (m .count p) (all-timed rows jobs) b σ outcome → outcome ≡ met
+  run-met : ((t : ℕ) → Within m rows t) → (jobs : List Job) → Legal rows jobs → (p : ℕ) → p < m .phases → (b : ℕ) (σ : Schedule) (outcome : Outcome) → Runs (m .count p) (timed-list rows jobs) b σ outcome → outcome ≡ met
   run-met within jobs legal p there b σ met runs = refl
   run-met within jobs legal p there b σ (missed k d) runs =
       let some-schedule = met-all within jobs legal p there in
-      absurd (run-optimal (m .count p) (phase-counts m law p there) (all-timed rows jobs) b σ k d runs (some-schedule .0) (some-schedule .1))
+      absurd (run-optimal (m .count p) (phase-counts m law p there) (timed-list rows jobs) b σ k d runs (some-schedule .0) (some-schedule .1))
 
-  run-meets : ((t : ℕ) → Within m rows t) → (jobs : List Job) → Legal rows jobs → (p : ℕ) → p < m .phases → (b : ℕ) (σ : Schedule) (outcome : Outcome) → Runs (m .count p) (all-timed rows jobs) b σ outcome → (outcome ≡ met) × Meets (m .count p) (all-timed rows jobs) σ
+  run-meets : ((t : ℕ) → Within m rows t) → (jobs : List Job) → Legal rows jobs → (p : ℕ) → p < m .phases → (b : ℕ) (σ : Schedule) (outcome : Outcome) → Runs (m .count p) (timed-list rows jobs) b σ outcome → (outcome ≡ met) × Meets (m .count p) (timed-list rows jobs) σ
   run-meets within jobs legal p there b σ outcome runs =
       let all = run-met within jobs legal p there b σ outcome runs in
-      (all, run-exact (m .count p) (all-timed rows jobs) b σ outcome runs .0 all)
+      (all, run-exact (m .count p) (timed-list rows jobs) b σ outcome runs .0 all)
 
   -- where demand exceeds supply, the witness list has no schedule in the worst phase
   unmet : (t : ℕ) → Exceeds m rows t → Met-in m rows (witness rows t) (m .worst t) → ⊥
@@ -71,7 +71,7 @@ module _ (m : Meaning) (law : Lawful m) (rows : List Row) (ok : All-lawful rows)
       let p = m .worst t in
       let there = law .attained t .0 in
       let counts = phase-counts m law p there in
-      let room = crowd (m .count p) counts (all-timed rows (witness rows t)) (found .0) (found .1) 0 t (omega arith) in
+      let room = crowd (m .count p) counts (timed-list rows (witness rows t)) (found .0) (found .1) 0 t (omega arith) in
       omega (arith, counts .starts, proved.witness-load rows t ok, law .attained t .1)
 
   -- before the least overloaded deadline demand is within supply
@@ -79,11 +79,11 @@ module _ (m : Meaning) (law : Lawful m) (rows : List Row) (ok : All-lawful rows)
   within-before t over s l =
       within-to m law rows ok s (λ d h. over .least d (deadlines-only rows s d h) (omega (arith, deadlines-bounded rows s d h))) s (omega arith)
 
-  earlier : (t : ℕ) → Overloaded m rows t → (jobs : List Job) → Legal rows jobs → ((k : ℕ) → k < length jobs → job (all-timed rows jobs) k .deadline < t) → (p : ℕ) → p < m .phases → Met-in m rows jobs p
+  earlier : (t : ℕ) → Overloaded m rows t → (jobs : List Job) → Legal rows jobs → ((k : ℕ) → k < length jobs → job (timed-list rows jobs) k .deadline < t) → (p : ℕ) → p < m .phases → Met-in m rows jobs p
   earlier zero over jobs legal before p there = absurd (omega (arith, over .exceeds, demand-none rows ok))
   earlier (suc b) over jobs legal before p there =
       let g = m .count p in
-      let tjobs = all-timed rows jobs in
+      let tjobs = timed-list rows jobs in
       let law-schedule = existence g tjobs in
       let due-by : Due-by tjobs b = λ k l. let same = length-map jobs (timed rows) in omega (arith, before k (omega arith)) in
       (law-schedule .0, sufficiency g (phase-counts m law p there) tjobs (law-schedule .0) b due-by (room-to b (λ s h. within-before (suc b) over s (omega arith)) jobs legal p there) (law-schedule .1))

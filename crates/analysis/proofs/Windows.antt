@@ -9,7 +9,7 @@ use Rattle.lines.proofs.Counts.{line-laws, counted-below}
 use Rattle.lines.specs.Demand.{Lawful, All-lawful, no-row, counted, count, work, demand}
 use Rattle.lines.specs.Laws.{Line-laws}
 use Rattle.lines.specs.declared.row.Row.{Row}
-use Rattle.run.specs.Timed.{timed, all-timed}
+use Rattle.run.specs.Timed.{timed, timed-list}
 use Rattle.run.specs.declared.job.Job.{Job}
 use Rattle.std.proofs.shelf.Lists.{length-map, getD-map}
 use Rattle.std.proofs.shelf.Tests.{cases-lt, cases-eq, cases-bool}
@@ -117,12 +117,12 @@ module _ (jobs : List Job) (i T D : ℕ) (some-D : 1 ≤ D) (D-within : D ≤ T)
   number-bound (suc m) a d l = let later = number-bound m (a + T) d (omega (arith, add-mul (suc m) 1 T)) in omega (arith, number-more a d)
 
 module _ (rows : List Row) (jobs : List Job) (legal : Legal rows jobs) (ok : All-lawful rows) where
-  timed-at : (k : ℕ) → k < length jobs → job (all-timed rows jobs) k ≡ timed rows (getD jobs k no-job)
+  timed-at : (k : ℕ) → k < length jobs → job (timed-list rows jobs) k ≡ timed rows (getD jobs k no-job)
   timed-at k l = getD-map (timed rows) jobs k no-job (record { release = 0; deadline = 0; cost = 0 }) l
 
   -- what the jobs of one line bring
   abbrev line-charge : ℕ → ℕ → ℕ → ℕ → ℕ
-  line-charge a d k i = cond (eqb (at-line jobs k) i) (charge (all-timed rows jobs) a d k) 0
+  line-charge a d k i = cond (eqb (at-line jobs k) i) (charge (timed-list rows jobs) a d k) 0
 
   line-charge-is : (a d k i : ℕ) → k < length jobs → line-charge a d k i ≡ cond (here jobs (getD rows i no-row .deadline) i a d k) (getD jobs k no-job .cost) 0
   line-charge-is a d k i l =
@@ -131,7 +131,7 @@ module _ (rows : List Row) (jobs : List Job) (legal : Legal rows jobs) (ok : All
       let costs = ap (λ j. j .cost) (timed-at k l) in
       by-line (cases-eq (at-line jobs k) i) released due costs
     where
-      by-line : (at-line jobs k ≡ i) ⊎ (at-line jobs k ≡ i → ⊥) → job (all-timed rows jobs) k .release ≡ at-release jobs k → job (all-timed rows jobs) k .deadline ≡ at-release jobs k + getD rows (at-line jobs k) no-row .deadline → job (all-timed rows jobs) k .cost ≡ getD jobs k no-job .cost → line-charge a d k i ≡ cond (here jobs (getD rows i no-row .deadline) i a d k) (getD jobs k no-job .cost) 0
+      by-line : (at-line jobs k ≡ i) ⊎ (at-line jobs k ≡ i → ⊥) → job (timed-list rows jobs) k .release ≡ at-release jobs k → job (timed-list rows jobs) k .deadline ≡ at-release jobs k + getD rows (at-line jobs k) no-row .deadline → job (timed-list rows jobs) k .cost ≡ getD jobs k no-job .cost → line-charge a d k i ≡ cond (here jobs (getD rows i no-row .deadline) i a d k) (getD jobs k no-job .cost) 0
       by-line (inl e) released due costs = let same = ap (λ n. getD rows n no-row .deadline) e in grind arith
       by-line (inr other) released due costs = grind arith
 
@@ -160,9 +160,9 @@ module _ (rows : List Row) (jobs : List Job) (legal : Legal rows jobs) (ok : All
       let more = laws .work-monotone (number jobs (row .deadline) i a d) m few in
       omega arith
 
-  pub window-bound : (a d : ℕ) → a ≤ d → load (all-timed rows jobs) a d ≤ demand rows (d - a)
+  pub window-bound : (a d : ℕ) → a ≤ d → load (timed-list rows jobs) a d ≤ demand rows (d - a)
   window-bound a d le =
-      let tjobs = all-timed rows jobs in
+      let tjobs = timed-list rows jobs in
       let same-length = length-map jobs (timed rows) in
       let by-place = load-places tjobs a d ∙ ap (sum (charge tjobs a d)) same-length in
       let by-line = sum-same (charge tjobs a d) (λ k. sum (line-charge a d k) (length rows)) (length jobs) (λ k l. sym (sum-pick (charge tjobs a d k) (at-line jobs k) (length rows) (legal .allowed k l .there))) in

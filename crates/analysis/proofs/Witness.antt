@@ -8,7 +8,7 @@ use Rattle.lines.proofs.Multiples.{multiples-apart}
 use Rattle.lines.specs.Demand.{Lawful, All-lawful, no-row, count, work, demand}
 use Rattle.lines.specs.Rest.{due}
 use Rattle.lines.specs.declared.row.Row.{Row}
-use Rattle.run.specs.Timed.{timed, all-timed}
+use Rattle.run.specs.Timed.{timed, timed-list}
 use Rattle.run.specs.declared.job.Job.{Job}
 use Rattle.std.proofs.shelf.Elements.{all-append, all-getD, all-weaker}
 use Rattle.std.proofs.shelf.Sums.{sumBy-cons, sumBy-append}
@@ -240,15 +240,15 @@ module _ (rows : List Row) (t : ℕ) (ok : All-lawful rows) where
       let below = before-cost n in
       omega (arith, sumBy-append (λ job. job .cost) (released-before rows t n) (released-at 0 rows t n), released-cost rows t n 0 rows, so-far-all t n rows ok)
 
-  inside-load : (jobs : List Job) → All (Comes rows t) jobs → load (all-timed rows jobs) 0 t ≡ sumBy (λ job. job .cost) jobs
+  inside-load : (jobs : List Job) → All (Comes rows t) jobs → load (timed-list rows jobs) 0 t ≡ sumBy (λ job. job .cost) jobs
   unfolding load
   inside-load [] h = refl
   inside-load (job ∷ jobs) h =
       let below = inside-load jobs (h .1) in
       let due-by = h .0 .in-time in
       let counts : cond (leb 0 (job .release) && leb (job .release + row-of rows job .deadline) t) (job .cost) 0 ≡ job .cost = grind arith in
-      omega (arith, sumBy-cons (λ (j : edf.Job). cond (leb 0 (j .release) && leb (j .deadline) t) (j .cost) 0) (timed rows job) (all-timed rows jobs), sumBy-cons (λ (j : Job). j .cost) job jobs)
+      omega (arith, sumBy-cons (λ (j : edf.Job). cond (leb 0 (j .release) && leb (j .deadline) t) (j .cost) 0) (timed rows job) (timed-list rows jobs), sumBy-cons (λ (j : Job). j .cost) job jobs)
 
-  pub witness-load : load (all-timed rows (witness rows t)) 0 t ≡ demand rows t
+  pub witness-load : load (timed-list rows (witness rows t)) 0 t ≡ demand rows t
   witness-load =
       inside-load (witness rows t) (all-weaker (Before rows t ok t) (Comes rows t) (λ job h. h .0) (witness rows t) (before-comes rows t ok t)) ∙ before-cost t ∙ so-far-end t rows ok

@@ -8,7 +8,7 @@ use Rattle.edf.specs.Load.{load}
 use Rattle.lines.specs.Demand.{All-lawful, demand}
 use Rattle.lines.specs.Rest.{full-list}
 use Rattle.lines.specs.declared.row.Row.{Row}
-use Rattle.run.specs.Timed.{all-timed}
+use Rattle.run.specs.Timed.{timed-list}
 use Rattle.run.specs.declared.job.Job.{Job}
 use Rattle.std.specs.declared.option.Option.{Option}
 use Rattle.supply.specs.Meaning.{Meaning, Lawful}
@@ -27,12 +27,12 @@ Cut-exact =
 -- The window bound: between a and d a legal list brings no more work than demand at the window's length.
 abbrev pub Window-bound : Type 0
 Window-bound =
-    (rows : List Row) (jobs : List Job) → Legal rows jobs → All-lawful rows → (a d : ℕ) → a ≤ d → load (all-timed rows jobs) a d ≤ demand rows (d - a)
+    (rows : List Row) (jobs : List Job) → Legal rows jobs → All-lawful rows → (a d : ℕ) → a ≤ d → load (timed-list rows jobs) a d ≤ demand rows (d - a)
 
 -- The witness list is legal, and its work up to t is the demand at t.
 abbrev pub Witness-asks : Type 0
 Witness-asks =
-    (rows : List Row) (t : ℕ) → All-lawful rows → Legal rows (witness rows t) × (load (all-timed rows (witness rows t)) 0 t ≡ demand rows t)
+    (rows : List Row) (t : ℕ) → All-lawful rows → Legal rows (witness rows t) × (load (timed-list rows (witness rows t)) 0 t ≡ demand rows t)
 
 -- Every watch list that calls reach is exact, and the lines are lawful.
 abbrev pub Reached-exact : Type 0

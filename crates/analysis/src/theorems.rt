@@ -35,5 +35,4 @@ pub fn verdict_exact()
 // The theorems speak of something: lines, a history, a verdict, a legal list and a certificate are there.
 pub fn example()
     ensures { λ _. ⌜ Example ⌝ }
-{
-}
+{}

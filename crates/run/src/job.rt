@@ -1,4 +1,4 @@
-// A job: the line that it came in on, the instant of its release, and its cost in slots.
+// A job: its line's number, the instant of its release, and its cost in slots.
 #[derive(Clone, Copy, PartialEq, Eq, Debug)]
 pub struct Job {
     pub line: u8,

@@ -1,0 +1,5 @@
+pub mod Holding
+pub mod Choosing
+pub mod Admitting
+pub mod Filling
+pub mod Passing
