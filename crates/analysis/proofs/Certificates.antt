@@ -1,8 +1,9 @@
 -- A certificate keeps a list exact: what it cites speaks for the deadline that leaves.
 use Prim.Native.Nat.{ℕ, zero, suc, _+_, _*_, _<_, _≤_}
-use Rattle.analysis.proofs.Costs.{alike-length, count-alike}
-use Rattle.analysis.specs.Watching.{Alike, Within, Exact, Cite, weighed, Certifies, without}
+use Rattle.lines.proofs.Costs.{alike-length, count-alike}
+use Rattle.analysis.specs.Watching.{Within, Exact, Cite, weighed, Certifies}
 use Rattle.lines.proofs.Counts.{line-laws}
+use Rattle.lines.specs.Changes.{Alike, without}
 use Rattle.lines.specs.Demand.{All-lawful, no-row, count, work, demand}
 use Rattle.lines.specs.Laws.{Line-laws}
 use Rattle.lines.specs.declared.row.Row.{Row}

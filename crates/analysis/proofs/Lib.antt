@@ -1,6 +1,5 @@
 pub mod Asking
 pub mod Certificates
-pub mod Costs
 pub mod Exactness
 pub mod Instance
 pub mod Reaching

@@ -3,10 +3,12 @@ use Prim.Native.Nat.{ℕ, zero, suc, _+_, _<_, _≤_}
 use Rattle.analysis.proofs.Certificates.{cut-exact}
 use Rattle.analysis.proofs.Exactness.{exact-by}
 use Rattle.analysis.proofs.Watching.{full-list-exact}
-use Rattle.analysis.specs.History.{Call, enrol, strike, recost, cut, recosted, Accepted, rows-after, watched-after, taken, Made, Reached, opened, made, refused, step, follow}
+use Rattle.analysis.specs.History.{Call, enrol, strike, recost, cut, Accepted, rows-after, watched-after, taken, Made, Reached, opened, made, refused, step, follow}
 use Rattle.analysis.specs.Theorems.{Reached-exact, Lines-follow, Verdict-exact}
-use Rattle.analysis.specs.Watching.{timing, Alike, Exact, Within}
+use Rattle.analysis.specs.Watching.{Exact, Within}
+use Rattle.lines.proofs.Costs.{alike-recosted, lawful-recosted}
 use Rattle.lines.proofs.Lawful.{lawful-push}
+use Rattle.lines.proofs.Removing.{lawful-removed}
 use Rattle.lines.specs.Calls.{line-checks, add-checks, outside}
 use Rattle.lines.specs.Demand.{All-lawful, no-row}
 use Rattle.lines.specs.Demand as lines
@@ -35,32 +37,13 @@ not-true-false false h = refl
 taken-lawful : (rows : List Row) (row : Row) → taken rows (enrol row) ≡ true → lines.Lawful row
 taken-lawful rows row e = grind arith
 
-lawful-removed : (rows : List Row) (i : ℕ) → i < length rows → All-lawful rows → All-lawful (removed rows i)
-lawful-removed rows i there ok k l =
-    let shorter = length-removed rows i there in
-    ⊎-elim (λ (h : k < i). rw (getD-removed-below rows i no-row k h there) (ok k (omega arith))) (λ (h : i ≤ k). rw (getD-removed-above rows i no-row k h there) (ok (k + 1) (omega arith))) (cases-lt k i)
-
-lawful-recosted : (rows : List Row) (i c : ℕ) → taken rows (recost i c) ≡ true → All-lawful rows → All-lawful (rows-after rows (recost i c))
-lawful-recosted rows i c e ok k l =
-    let there : i < length rows = grind arith in
-    let ranged : (1 ≤ c) × (c ≤ 1000) = grind arith in
-    let row = recosted (getD rows i no-row) c in
-    let same = length-set rows i row in
-    let old = ok i there in
-    ⊎-elim (λ (h : k ≡ i). rw (h, getD-set-same rows i row no-row there) (old .0, old .1, old .2, ranged .0, ranged .1)) (λ (h : k ≡ i → ⊥). rw (getD-set-other rows i k row no-row h) (ok k (omega arith))) (cases-eq k i)
-
--- a new cost leaves the timing
-alike-recosted : (rows : List Row) (i c : ℕ) → map timing (rows-after rows (recost i c)) ≡ map timing rows
-alike-recosted rows i c =
-    map-set timing rows i (recosted (getD rows i no-row) c) ∙ sym (map-set timing rows i (getD rows i no-row)) ∙ ap (map timing) (set-getD rows i no-row)
-
 module _ (m : Meaning) (law : Lawful m) where
   -- each call that is made keeps the lines lawful and the watch list exact
   step-exact : (rows : List Row) (watched : List ℕ) (call : Call) → Made m rows watched call → Exact m rows watched × All-lawful rows → Exact m (rows-after rows call) (watched-after rows watched call) × All-lawful (rows-after rows call)
   step-exact rows watched (enrol row) h (exact, ok) = (full-list-exact m law (rows ++ (row ∷ [])), lawful-push rows row ok (taken-lawful rows row h))
   step-exact rows watched (strike i) h (exact, ok) = (full-list-exact m law (removed rows i), lawful-removed rows i (grind arith) ok)
   step-exact rows watched (recost i c) h (exact, ok) =
-      (λ others lawful alike. exact others lawful (sym (alike-recosted rows i c) ∙ alike), lawful-recosted rows i c h ok)
+      (λ others lawful alike. exact others lawful (sym (alike-recosted rows i c) ∙ alike), lawful-recosted rows i c (grind arith) (grind arith) (grind arith) ok)
   step-exact rows watched (cut d q cites) h (exact, ok) = (cut-exact m rows watched d q cites (h .certifies) exact, ok)
 
   reached : {calls : List Call} {rows : List Row} {watched : List ℕ} → Reached m calls rows watched → Exact m rows watched × All-lawful rows

@@ -1,10 +1,11 @@
 -- The full list is exact, and a certificate keeps a list exact.
 use Prim.Native.Nat.{ℕ, zero, suc, _+_, _-_, _*_, _<_, _≤_}
 use Rattle.analysis.proofs.Asking.{demand-none, demand-still, demand-splits}
-use Rattle.analysis.proofs.Costs.{full-list-alike}
-use Rattle.analysis.specs.Watching.{Alike, Within, Exact, Cite, weighed, Certifies, without}
+use Rattle.lines.proofs.Costs.{full-list-alike}
+use Rattle.analysis.specs.Watching.{Within, Exact, Cite, weighed, Certifies}
 use Rattle.lines.proofs.Listed.{deadlines-hold}
 use Rattle.lines.proofs.Rests.{first-rest-positive, first-rest-rests}
+use Rattle.lines.specs.Changes.{Alike, without}
 use Rattle.lines.specs.Demand.{All-lawful, demand}
 use Rattle.lines.specs.Rest.{every, some, resting, due, first-rest, deadlines, full-list}
 use Rattle.lines.specs.declared.row.Row.{Row}

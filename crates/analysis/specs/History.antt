@@ -1,8 +1,8 @@
 -- Histories: what the lines and the watch list of a roster are after any calls from its opening. Assumes nothing.
 use Prim.Native.Nat.{ℕ, _<_, _≤_}
-use Rattle.analysis.specs.Watching.{Cite, Certifies, without}
+use Rattle.analysis.specs.Watching.{Cite, Certifies}
 use Rattle.lines.specs.Calls.{add-checks, outside}
-use Rattle.lines.specs.Demand.{no-row}
+use Rattle.lines.specs.Changes.{with-cost, without}
 use Rattle.lines.specs.Rest.{full-list}
 use Rattle.lines.specs.declared.row.Row.{Row}
 use Rattle.refusal.specs.Answers.{refusalOf}
@@ -23,10 +23,6 @@ pub data Call : Type 0 where
   recost : (number cost : ℕ) → Call
   cut : (deadline divisor : ℕ) → List Cite → Call
 
--- The row with another cost.
-abbrev pub recosted : Row → ℕ → Row
-recosted row cost = record { period = row .period; deadline = row .deadline; cost = cost }
-
 -- A certificate is accepted: its figures are in range, its deadline is watched, and it certifies that this may leave.
 pub record Accepted (m : Meaning) (rows : List Row) (watched : List ℕ) (d divisor : ℕ) (cites : List Cite) : Type 0 where
   pub divisor-in-range : (1 ≤ divisor) × (divisor ≤ 1000)
@@ -39,7 +35,7 @@ pub record Accepted (m : Meaning) (rows : List Row) (watched : List ℕ) (d divi
 abbrev pub rows-after : List Row → Call → List Row
 rows-after rows (enrol row) = rows ++ (row ∷ [])
 rows-after rows (strike number) = removed rows number
-rows-after rows (recost number cost) = set rows number (recosted (getD rows number no-row) cost)
+rows-after rows (recost number cost) = with-cost rows number cost
 rows-after rows (cut d divisor cites) = rows
 
 -- What it does to the watch list: enrol and strike set the full list, recost leaves it, and cut takes its deadline out.

@@ -3,8 +3,9 @@ use Prim.Native.Nat.{ℕ, _-_, _≤_}
 use Rattle.analysis.specs.History.{Call, Reached, follow}
 use Rattle.analysis.specs.Legal.{Legal, witness}
 use Rattle.analysis.specs.Verdict.{Verdict, Exact-verdict}
-use Rattle.analysis.specs.Watching.{Exact, Cite, Certifies, without}
+use Rattle.analysis.specs.Watching.{Exact, Cite, Certifies}
 use Rattle.edf.specs.Load.{load}
+use Rattle.lines.specs.Changes.{without}
 use Rattle.lines.specs.Demand.{All-lawful, demand}
 use Rattle.lines.specs.Rest.{full-list}
 use Rattle.lines.specs.declared.row.Row.{Row}

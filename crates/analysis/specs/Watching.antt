@@ -1,22 +1,13 @@
 -- When a list of watched deadlines says enough, and when one may leave it. Assumes nothing.
 use Prim.Native.Nat.{ℕ, _+_, _*_, _<_, _≤_}
+use Rattle.lines.specs.Changes.{Alike}
 use Rattle.lines.specs.Demand.{All-lawful, no-row, count, demand}
 use Rattle.lines.specs.declared.row.Row.{Row}
-use Rattle.std.specs.shelf.Lists.{All, Has, kept-by}
+use Rattle.std.specs.shelf.Lists.{All, Has}
 use Rattle.supply.specs.Meaning.{Meaning}
-use lib.Dec.{eqb}
 use lib.ListN.{length, getD}
-use mathlib.Core.Bool.{not}
-use mathlib.Core.List.{List, [], _∷_, map}
+use mathlib.Core.List.{List, [], _∷_}
 use mathlib.Core.Path.{_≡_}
-
--- A line without its cost.
-abbrev pub timing : Row → Row
-timing row = record { period = row .period; deadline = row .deadline; cost = 0 }
-
--- Two sets of lines that differ at most in their costs.
-abbrev pub Alike : List Row → List Row → Type 0
-Alike rows others = map timing rows ≡ map timing others
 
 -- At t the lines ask for no more than the supply is sure to give.
 abbrev pub Within : Meaning → List Row → ℕ → Type 0
@@ -44,7 +35,3 @@ pub record Certifies (m : Meaning) (rows : List Row) (watched : List ℕ) (d div
   pub cited : All (λ cite. Has watched (cite .deadline) × (cite .deadline ≡ d → ⊥)) cites
   pub counts : (i : ℕ) → i < length rows → divisor * count (getD rows i no-row) d ≤ weighed (count (getD rows i no-row)) cites
   pub supply : weighed (m .least) cites ≤ divisor * m .least d
-
--- The list without d.
-abbrev pub without : ℕ → List ℕ → List ℕ
-without d watched = kept-by (λ x. not (eqb x d)) watched

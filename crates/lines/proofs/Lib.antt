@@ -1,4 +1,5 @@
 pub mod Adding
+pub mod Costs
 pub mod Counts
 pub mod Every
 pub mod Fewer
@@ -6,7 +7,9 @@ pub mod First
 pub mod Gathered
 pub mod Hyperperiod
 pub mod Lawful
+pub mod Leaving
 pub mod Listed
 pub mod Multiples
+pub mod Removing
 pub mod Rests
 pub mod Rising

@@ -1,4 +1,5 @@
 pub mod Calls
+pub mod Changes
 pub mod Common
 pub mod Demand
 pub mod Laws

@@ -1,10 +1,13 @@
 -- The hyperperiod, rest points, deadlines and the full watch list of a set of lines. Assumes nothing.
-use Prim.Native.Nat.{ℕ, zero, suc, _+_, _-_, _*_, _%_}
+use Prim.Native.Nat.{ℕ, zero, suc, _+_, _-_, _*_, _%_, _<_, _≤_}
 use Rattle.lines.specs.Demand.{count}
 use Rattle.lines.specs.declared.row.Row.{Row}
+use Rattle.std.specs.declared.option.Option.{Option}
+use Rattle.std.specs.declared.option.Option.the-variants.{None, Some}
 use lib.Dec.{leb, eqb}
 use mathlib.Core.Bool.{Bool, true, false, cond, _&&_, _||_}
 use mathlib.Core.List.{List, [], _∷_, _++_}
+use mathlib.Core.Path.{_≡_}
 
 -- The least number from 1 on that passes a test, where one up to n does; and n + 1 where none does.
 unfoldable pub first : (ℕ → Bool) → ℕ → ℕ
@@ -56,3 +59,9 @@ deadlines rows (suc n) = cond (some (due (suc n)) rows) (deadlines rows n ++ (su
 -- The full watch list: every deadline up to the first rest point.
 abbrev pub full-list : List Row → List ℕ
 full-list rows = deadlines rows (first-rest rows)
+
+-- The first deadline after an instant and up to a last one, if there is one.
+abbrev pub Next : List Row → (after last : ℕ) → Option ℕ → Type 0
+Next rows after last None = (k : ℕ) → after < k → k ≤ last → some (due k) rows ≡ false
+Next rows after last (Some d) =
+    (after < d) × (d ≤ last) × (some (due d) rows ≡ true) × ((k : ℕ) → after < k → k < d → some (due k) rows ≡ false)

@@ -1,11 +1,10 @@
 // The deadlines of lawful rows in rising order, by the next one of each line.
-ghost use Prim.Native.Nat.{ℕ, _<_, _≤_};
+ghost use Prim.Native.Nat.{_<_};
 ghost use Rattle.lines.specs.Demand.{All-lawful};
 ghost use Rattle.lines.specs.Of.{watched};
-ghost use Rattle.lines.specs.Rest.{some, due, deadlines};
+ghost use Rattle.lines.specs.Rest.{Next, deadlines};
 ghost use Rattle.std.specs.Options.{Cases};
 ghost use lib.ListN.{length};
-ghost use mathlib.Core.Bool.{true, false};
 ghost use mathlib.Core.Path.{_≡_};
 use crate::line::Line;
 use crate::row::Row;
@@ -14,7 +13,7 @@ use crate::watch_list::WatchList;
 // The first deadline after an instant and up to an end, if there is one.
 pub(crate) fn next_deadline(rows: &[Row], after: u16, end: u16) -> Option<u16>
     requires { ⌜ All-lawful (now rows) ⌝ }
-    ensures { λ r. ⌜ Cases r ((k : ℕ) → after < k → k ≤ end → some (due k) (now (rows .entry)) ≡ false) (λ d. (after < d) × (d ≤ end) × (some (due d) (now (rows .entry)) ≡ true) × ((k : ℕ) → after < k → k < d → some (due k) (now (rows .entry)) ≡ false)) ⌝ }
+    ensures { λ r. ⌜ Next (now (rows .entry)) after «end» r ⌝ }
 {
     let past = u32::from(end) + 1;
     let mut first = past;
@@ -31,7 +30,7 @@ pub(crate) fn next_deadline(rows: &[Row], after: u16, end: u16) -> Option<u16>
 // Every deadline up to an end, unless there are more than 256.
 pub(crate) fn deadlines_to(rows: &[Row], end: u16) -> Option<WatchList>
     requires { ⌜ All-lawful (now rows) ⌝ }
-    ensures { λ r. ⌜ Cases r (256 < length (deadlines (now (rows .entry)) end)) (λ w. watched w ≡ deadlines (now (rows .entry)) end) ⌝ }
+    ensures { λ r. ⌜ Cases r (256 < length (deadlines (now (rows .entry)) «end»)) (λ w. watched w ≡ deadlines (now (rows .entry)) «end») ⌝ }
 {
     let mut list = WatchList::none();
     let mut at = 0;

@@ -1,14 +1,17 @@
 ghost use Prim.Native.Nat.{_<_, _≤_};
 ghost use Rattle.lines.specs.Calls.{add-checks, set-checks};
+ghost use Rattle.lines.specs.Changes.{recost-checks, with-cost};
 ghost use Rattle.lines.specs.Demand.{All-lawful, no-row, demand};
 ghost use Rattle.lines.specs.Of.{rows-of, watched};
-ghost use Rattle.lines.specs.Rest.{hyperperiod, first-rest, full-list};
-ghost use Rattle.refusal.specs.Answers.{Answered};
+ghost use Rattle.lines.specs.Rest.{Next, hyperperiod, first-rest, full-list};
+ghost use Rattle.refusal.specs.Answers.{Answered, left};
+ghost use Rattle.std.specs.Holes.{removed};
 ghost use Rattle.std.specs.Options.{Cases};
 ghost use lib.ListN.{length, getD, take};
 ghost use mathlib.Core.List.{[], _∷_, _++_};
 ghost use mathlib.Core.Path.{_≡_};
 use crate::deadlines::deadlines_to;
+use crate::deadlines::next_deadline;
 use crate::line::Line;
 use crate::rest::first_rest_of;
 use crate::rest::hyperperiod_of;
@@ -88,6 +91,50 @@ impl Lines {
         let mut rows = self.rows;
         rows[self.len] = line.row();
         checked(rows, self.len + 1)
+    }
+
+    // The lines without one, the later ones numbered one lower, and their full watch list; none where that line is not there.
+    pub fn remove(&self, number: usize) -> Option<(Lines, WatchList)>
+        ensures { λ r. ⌜ Cases r (length (rows-of (now (self .entry))) ≤ number) (λ made. (number < length (rows-of (now (self .entry)))) × (rows-of (made .0) ≡ removed (rows-of (now (self .entry))) number) × (watched (made .1) ≡ full-list (rows-of (made .0)))) ⌝ }
+    {
+        if number >= self.len {
+            return None;
+        }
+        let mut rows = self.rows;
+        rows.copy_within(number + 1..self.len, number);
+        let rest = Lines {
+            rows,
+            len: self.len - 1,
+        };
+        Some((rest, rest.full_list()))
+    }
+
+    // The line of a number gets a new cost: its row is replaced, and the others stay.
+    pub fn recost(&mut self, number: u8, cost: u16) -> Result<(), Refusal>
+        ensures answer { λ r. ⌜ Answered r (recost-checks (rows-of (now (self .entry))) number cost) (λ _. Unit {0}) ⌝ }
+        ensures rows { λ r. ⌜ rows-of (now (self .exit)) ≡ left r (with-cost (rows-of (now (self .entry))) number cost) (rows-of (now (self .entry))) ⌝ }
+    {
+        let at = usize::from(number);
+        if at >= self.len {
+            return Err(Refusal::by(Layer::Roster, Reason::NoSuchLine).at(u32::from(number)));
+        }
+        if cost < 1 || cost > 1000 {
+            return Err(Refusal::by(Layer::Roster, Reason::CostOutOfRange));
+        }
+        let row = self.rows[at];
+        self.rows[at] = Row {
+            period: row.period,
+            deadline: row.deadline,
+            cost,
+        };
+        Ok(())
+    }
+
+    // The first deadline of the lines after an instant and up to a last one, if there is one.
+    pub fn next_deadline(&self, after: u16, last: u16) -> Option<u16>
+        ensures { λ r. ⌜ Next (rows-of (now (self .entry))) after last r ⌝ }
+    {
+        next_deadline(&self.rows[0..self.len], after, last)
     }
 
     // What the lines ask for by t.

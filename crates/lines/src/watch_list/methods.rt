@@ -1,4 +1,5 @@
 ghost use Prim.Native.Nat.{_≤_};
+ghost use Rattle.lines.specs.Changes.{without};
 ghost use Rattle.lines.specs.Of.{watched};
 ghost use Rattle.std.specs.Orderings.{When, Decides};
 ghost use Rattle.std.specs.shelf.Lists.{Has};
@@ -37,6 +38,20 @@ impl WatchList {
         ensures { λ r. ⌜ Decides r (Has (watched (now (self .entry))) d) ⌝ }
     {
         self.as_slice().contains(&d)
+    }
+
+    // The list without d.
+    pub fn without(&self, d: u16) -> WatchList
+        ensures { λ r. ⌜ watched r ≡ without d (watched (now (self .entry))) ⌝ }
+    {
+        let mut rest = WatchList::none();
+        let list = self.as_slice();
+        for x in list {
+            if *x != d {
+                rest.push(*x);
+            }
+        }
+        rest
     }
 
     // One deadline more at the end; false, and nothing changes, where the list is full.
