@@ -1,6 +1,4 @@
 // Runs with known answers, and the edges of the checks.
-use crate::second::Second;
-use crate::second::SecondSupply;
 use crate::trial::tried;
 use lines::Row;
 use refusal::RefusalDisplay;
@@ -10,6 +8,8 @@ use std::alloc::AllocError;
 use std::alloc::Global;
 use std::error::AnyError;
 use supply::Supply;
+use supply::Timetable;
+use supply::TimetableSupply;
 use supply::Whole;
 use supply::WholeSupply;
 
@@ -67,6 +67,29 @@ fn shown<S: Supply>(
     Ok(())
 }
 
+// Lists on every second slot, those of odd number in phase 0 and of even number in phase 1.
+fn on_part(rt: &LibcRuntime) -> Result<(), AnyError> {
+    let Ok(timetable) = Timetable::new(2, 2) else {
+        return Err("every second slot is a timetable".into());
+    };
+    shown(
+        rt,
+        "every second slot",
+        &timetable,
+        0,
+        &[job(0, 1, 2), job(2, 1, 2)],
+        13,
+    )?;
+    shown(
+        rt,
+        "a phase far above 2",
+        &timetable,
+        u32::MAX,
+        &[job(0, 1, 2), job(2, 1, 2)],
+        13,
+    )
+}
+
 // The jobs of three lines from 0 on with deadlines up to 12, and other lists that are taken.
 fn taken(rt: &LibcRuntime) -> Result<(), AnyError> {
     let jobs = &[job(0, 0, 3), job(1, 0, 3), job(2, 0, 4), job(0, 7, 3)];
@@ -81,22 +104,7 @@ fn taken(rt: &LibcRuntime) -> Result<(), AnyError> {
         &[job(1, 3, 3), job(0, 5, 2)],
         11,
     )?;
-    shown(
-        rt,
-        "every second slot",
-        &Second,
-        0,
-        &[job(0, 1, 2), job(2, 1, 2)],
-        13,
-    )?;
-    shown(
-        rt,
-        "a phase far above 2",
-        &Second,
-        u32::MAX,
-        &[job(0, 1, 2), job(2, 1, 2)],
-        13,
-    )?;
+    on_part(rt)?;
     shown(rt, "no jobs, no slots", &Whole, u32::MAX, &[], 0)?;
     shown(rt, "no jobs, 3 slots", &Whole, 0, &[], 3)
 }

@@ -1,7 +1,6 @@
 // Shows the run at work: a known overload, the edges of its checks, and random lists against a slow simulation.
 mod cases;
 mod random;
-mod second;
 mod slow;
 mod trial;
 

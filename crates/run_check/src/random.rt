@@ -1,6 +1,4 @@
-// Random lists of jobs, each run on the whole processor and on every second slot, against the slow simulation.
-use crate::second::Second;
-use crate::second::SecondSupply;
+// Random lists of jobs, each run on the whole processor, a timetable and a share, against the slow simulation.
 use crate::trial::Trial;
 use crate::trial::agrees;
 use crate::trial::lines_of;
@@ -11,6 +9,10 @@ use run::Outcome;
 use std::alloc::AllocError;
 use std::alloc::Global;
 use std::error::AnyError;
+use supply::Share;
+use supply::ShareSupply;
+use supply::Timetable;
+use supply::TimetableSupply;
 use supply::Whole;
 use supply::WholeSupply;
 
@@ -121,6 +123,12 @@ fn spoil(dice: &mut Dice, jobs: &mut Vec<Job>) {
 // Runs random lists and prints how they ended.
 pub(crate) fn compare(rt: &LibcRuntime) -> Result<(), AnyError> {
     let heap = rt.alloc();
+    let Ok(timetable) = Timetable::new(2, 2) else {
+        return Err("every second slot is a timetable".into());
+    };
+    let Ok(share) = Share::new(Whole, 2, 3) else {
+        return Err("2 in 3 is a share".into());
+    };
     let mut dice = Dice { state: 2_026 };
     let mut tally = Tally {
         met: 0,
@@ -138,10 +146,14 @@ pub(crate) fn compare(rt: &LibcRuntime) -> Result<(), AnyError> {
         let whole = tried(heap, &Whole, k, rows.as_slice(), list.as_slice(), many)?;
         let right = agrees(heap, &whole, rows.as_slice(), list.as_slice(), &[true])?;
         tally.add(&whole, right);
-        let second = tried(heap, &Second, k, rows.as_slice(), list.as_slice(), many)?;
+        let odd = tried(heap, &timetable, k, rows.as_slice(), list.as_slice(), many)?;
         let pattern = [k % 2 == 1, k % 2 == 0];
-        let right = agrees(heap, &second, rows.as_slice(), list.as_slice(), &pattern)?;
-        tally.add(&second, right);
+        let right = agrees(heap, &odd, rows.as_slice(), list.as_slice(), &pattern)?;
+        tally.add(&odd, right);
+        let part = tried(heap, &share, k, rows.as_slice(), list.as_slice(), many)?;
+        let pattern = [k % 3 != 2, k % 3 != 1, k % 3 != 0];
+        let right = agrees(heap, &part, rows.as_slice(), list.as_slice(), &pattern)?;
+        tally.add(&part, right);
     }
     let met = tally.met;
     let missed = tally.missed;
