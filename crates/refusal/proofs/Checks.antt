@@ -31,3 +31,24 @@ refusal-first (c ∷ cs) ds e h = go (c .fails) refl (refusal-first cs ds e)
 pub answered-alike : {A : Type 0} (r : Result A Refusal) (cs ds : List Check) (P Q : A → Type 0) → refusalOf cs ≡ refusalOf ds → ((x : A) → P x → Q x) → Answered r cs P → Answered r ds Q
 answered-alike (Ok x) cs ds P Q same gives h = (sym same ∙ h .0, gives x (h .1))
 answered-alike (Err e) cs ds P Q same gives h = sym same ∙ h
+
+-- where no check fails, the first does not, and those behind it do not; and the other way round
+pub passed-first : (c : Check) (cs : List Check) → refusalOf (c ∷ cs) ≡ None → (c .fails ≡ false) × (refusalOf cs ≡ None)
+passed-first c cs e = go (c .fails) refl
+  where
+    go : (b : Bool) → c .fails ≡ b → (c .fails ≡ false) × (refusalOf cs ≡ None)
+    go true f = absurd (grind arith)
+    go false f = (f, grind arith)
+
+pub pass-first : (c : Check) (cs : List Check) → c .fails ≡ false → refusalOf cs ≡ None → refusalOf (c ∷ cs) ≡ None
+pass-first c cs f later = grind arith
+
+pub passed-both : (cs ds : List Check) → refusalOf (cs ++ ds) ≡ None → (refusalOf cs ≡ None) × (refusalOf ds ≡ None)
+passed-both [] ds e = (refl, e)
+passed-both (c ∷ cs) ds e =
+    let here = passed-first c (cs ++ ds) e in
+    let later = passed-both cs ds (here .1) in
+    (pass-first c cs (here .0) (later .0), later .1)
+
+pub pass-both : (cs ds : List Check) → refusalOf cs ≡ None → refusalOf ds ≡ None → refusalOf (cs ++ ds) ≡ None
+pass-both cs ds first later = refusal-behind cs ds first ∙ later

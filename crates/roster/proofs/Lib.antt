@@ -1,0 +1,4 @@
+pub mod Each
+pub mod Listed
+pub mod Passing
+pub mod Walking
