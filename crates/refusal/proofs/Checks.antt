@@ -1,12 +1,15 @@
 -- How the answers of one list of checks carry over to another.
-use Rattle.refusal.specs.Answers.{Check, refusalOf, Answered}
+use Prim.Native.Nat.{ℕ}
+use Rattle.refusal.specs.Answers.{Check, check-at, refusalOf, Answered}
 use Rattle.refusal.specs.declared.Refusal.{Refusal}
+use Rattle.refusal.specs.declared.layer.Layer.the-variants.{Roster}
+use Rattle.refusal.specs.declared.reason.Reason.{Reason}
 use Rattle.std.specs.declared.option.Option.the-variants.{None, Some}
 use Rattle.std.specs.declared.result.Result.{Result}
 use Rattle.std.specs.declared.result.Result.the-variants.{Ok, Err}
 use mathlib.Core.Bool.{Bool, true, false}
 use mathlib.Core.List.{List, [], _∷_, _++_}
-use mathlib.Core.Path.{_≡_, refl, sym, _∙_}
+use mathlib.Core.Path.{_≡_, refl, sym, _∙_, ap}
 use native.Mathlib.Omega.{arith}
 
 -- checks that pass leave the answer to those behind them
@@ -52,3 +55,7 @@ passed-both (c ∷ cs) ds e =
 
 pub pass-both : (cs ds : List Check) → refusalOf cs ≡ None → refusalOf ds ≡ None → refusalOf (cs ++ ds) ≡ None
 pass-both cs ds first later = refusal-behind cs ds first ∙ later
+
+-- the refusal that is made for a reason and then set at a place
+pub refused-at : (e b : Refusal) (why : Reason) (place : ℕ) → b ≡ record { reason = why; layer = Roster; place = 0 } → e ≡ record { reason = b .reason; layer = b .layer; place = place } → check-at place true why .refusal ≡ e
+refused-at e b why place by at = sym (at ∙ ap (λ (x : Refusal). record { reason = x .reason; layer = x .layer; place = place }) by)

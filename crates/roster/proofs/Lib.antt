@@ -1,4 +1,6 @@
+pub mod Certifying
 pub mod Each
 pub mod Listed
 pub mod Passing
+pub mod Spelling
 pub mod Walking

@@ -11,7 +11,7 @@ use Rattle.refusal.specs.declared.Refusal.{Refusal}
 use Rattle.refusal.specs.declared.reason.Reason.the-variants.{NotWatched, CertificateOutOfRange}
 use Rattle.roster.proofs.Each.{each-passed, each-passes}
 use Rattle.roster.proofs.Listed.{listed-has, has-listed}
-use Rattle.roster.specs.Certificate.{listed, each, weight-check, cited-check, count-check, supply-check, cut-checks}
+use Rattle.roster.specs.Certificate.{listed, each, weight-check, cited-check, count-check, supply-check, figure-checks, cut-checks}
 use Rattle.roster.specs.Working.{rows-in, watched-in, checks, Works}
 use Rattle.roster.specs.declared.roster.Roster.{Roster}
 use Rattle.std.proofs.shelf.Elements.{all-weaker, all-getD, all-from-getD}
@@ -51,35 +51,32 @@ fine-cited : (watched : List ℕ) (d x : ℕ) → Has watched x → (x ≡ d →
 fine-cited watched d x h apart = let is = has-listed x watched h in grind arith
 
 module _ (m : Meaning) (rows : List Row) (watched : List ℕ) (d divisor : ℕ) (cites : List Cite) where
+  abbrev number-check : Check
+  number-check = check (outside 1 8 (length cites)) CertificateOutOfRange
+
   -- the checks behind each kind
-  abbrev behind-counts : List Check
+  abbrev pub behind-counts : List Check
   behind-counts = supply-check m d divisor cites ∷ []
 
-  abbrev behind-cites : List Check
+  abbrev pub behind-cites : List Check
   behind-cites = each (count-check d divisor cites) 0 rows ++ behind-counts
 
-  abbrev behind-watched : List Check
+  abbrev pub behind-watched : List Check
   behind-watched = each (cited-check watched d) 1 cites ++ behind-cites
 
-  abbrev behind-weights : List Check
-  behind-weights = check (not (listed d watched)) NotWatched ∷ behind-watched
-
-  abbrev behind-number : List Check
-  behind-number = each weight-check 1 cites ++ behind-weights
-
-  abbrev behind-divisor : List Check
-  behind-divisor = check (outside 1 8 (length cites)) CertificateOutOfRange ∷ behind-number
+  abbrev pub behind-figures : List Check
+  behind-figures = check (not (listed d watched)) NotWatched ∷ behind-watched
 
   cut-accepted : refusalOf (cut-checks m rows watched d divisor cites) ≡ None → Accepted m rows watched d divisor cites
   cut-accepted e =
-      let one = passed-first (check (outside 1 1000 divisor) CertificateOutOfRange) behind-divisor e in
-      let two = passed-first (check (outside 1 8 (length cites)) CertificateOutOfRange) behind-number (one .1) in
-      let three = passed-both (each weight-check 1 cites) behind-weights (two .1) in
-      let four = passed-first (check (not (listed d watched)) NotWatched) behind-watched (three .1) in
+      let figures = passed-both (figure-checks divisor cites) behind-figures e in
+      let one = passed-first (check (outside 1 1000 divisor) CertificateOutOfRange) (number-check ∷ each weight-check 1 cites) (figures .0) in
+      let two = passed-first number-check (each weight-check 1 cites) (one .1) in
+      let four = passed-first (check (not (listed d watched)) NotWatched) behind-watched (figures .1) in
       let five = passed-both (each (cited-check watched d) 1 cites) behind-cites (four .1) in
       let six = passed-both (each (count-check d divisor cites) 0 rows) behind-counts (five .1) in
       let seven = passed-first (supply-check m d divisor cites) [] (six .1) in
-      let weights = each-passed weight-check (λ cite. outside 1 1000 (cite .weight)) (λ p x. refl) 1 cites (three .0) in
+      let weights = each-passed weight-check (λ cite. outside 1 1000 (cite .weight)) (λ p x. refl) 1 cites (two .1) in
       let cited = each-passed (cited-check watched d) (λ cite. not (listed (cite .deadline) watched) || eqb (cite .deadline) d) (λ p x. refl) 1 cites (five .0) in
       let counts = each-passed (count-check d divisor cites) (λ row. ltb (weighed (count row) cites) (divisor * count row d)) (λ p x. refl) 0 rows (six .0) in
       record {
@@ -105,9 +102,9 @@ module _ (m : Meaning) (rows : List Row) (watched : List ℕ) (d divisor : ℕ) 
       let six = pass-both (each (count-check d divisor cites) 0 rows) behind-counts counts seven in
       let five = pass-both (each (cited-check watched d) 1 cites) behind-cites cited six in
       let four = pass-first (check (not (listed d watched)) NotWatched) behind-watched (ap not here) five in
-      let three = pass-both (each weight-check 1 cites) behind-weights weights four in
-      let two = pass-first (check (outside 1 8 (length cites)) CertificateOutOfRange) behind-number (in-range 1 8 (length cites) (a .cites-in-range .0) (a .cites-in-range .1)) three in
-      pass-first (check (outside 1 1000 divisor) CertificateOutOfRange) behind-divisor (in-range 1 1000 divisor (a .divisor-in-range .0) (a .divisor-in-range .1)) two
+      let two = pass-first number-check (each weight-check 1 cites) (in-range 1 8 (length cites) (a .cites-in-range .0) (a .cites-in-range .1)) weights in
+      let one = pass-first (check (outside 1 1000 divisor) CertificateOutOfRange) (number-check ∷ each weight-check 1 cites) (in-range 1 1000 divisor (a .divisor-in-range .0) (a .divisor-in-range .1)) two in
+      pass-both (figure-checks divisor cites) behind-figures one four
 
 pub passes-made : (m : Meaning) (rows : List Row) (watched : List ℕ) (call : Call) → refusalOf (checks m rows watched call) ≡ None → Made m rows watched call
 passes-made m rows watched (enrol row) e = rw e refl
