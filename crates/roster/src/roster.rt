@@ -1,4 +1,5 @@
 mod calls;
+mod making;
 mod reading;
 mod verdict;
 
