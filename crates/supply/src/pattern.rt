@@ -14,7 +14,7 @@ pub struct Pattern {
 
 impl Pattern {
     // The pattern of two numbers, if they make one.
-    pub fn new(given: u8, of: u8) -> Option<Pattern>
+    pub(crate) fn new(given: u8, of: u8) -> Option<Pattern>
         ensures { λ r. ⌜ BySome r (Lawful-pattern given of → ⊥) (λ p. (p .given ≡ given) × (p .of ≡ of)) ⌝ }
     {
         if given < 1 || of < given || of > 64 {
@@ -24,7 +24,7 @@ impl Pattern {
     }
 
     // The number of slots of a turn.
-    pub fn turn(&self) -> u32
+    pub(crate) fn turn(&self) -> u32
         ensures { λ r. ⌜ r ≡ now (self .entry) .of ⌝ }
     {
         self.of as u32
@@ -40,7 +40,7 @@ impl Pattern {
     }
 
     // How many of x slots are taken, from a slot of the first turn on.
-    pub fn taken_from(&self, start: u32, x: u16) -> u16
+    pub(crate) fn taken_from(&self, start: u32, x: u16) -> u16
         requires { ⌜ start < now self .of ⌝ }
         ensures { λ r. ⌜ r ≡ from (pattern (now (self .entry) .given) (now (self .entry) .of)) start x ⌝ }
     {
@@ -48,7 +48,7 @@ impl Pattern {
     }
 
     // How many of any x slots in a row are sure to be taken.
-    pub fn sure_of(&self, x: u16) -> u16
+    pub(crate) fn sure_of(&self, x: u16) -> u16
         ensures { λ r. ⌜ r ≡ sure (now (self .entry) .given) (now (self .entry) .of) x ⌝ }
     {
         let turn = self.of as u16;
@@ -57,7 +57,7 @@ impl Pattern {
     }
 
     // The slot of the turn from which on no more are taken than is sure.
-    pub fn worst_start(&self) -> u32
+    pub(crate) fn worst_start(&self) -> u32
         ensures { λ r. ⌜ r ≡ now (self .entry) .given % now (self .entry) .of ⌝ }
     {
         (self.given % self.of) as u32
