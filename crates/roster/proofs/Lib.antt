@@ -1,5 +1,6 @@
 pub mod Certifying
 pub mod Each
+pub mod Fitting
 pub mod Going
 pub mod Listed
 pub mod Passing

@@ -1,6 +1,7 @@
 mod calls;
 mod making;
 mod reading;
+mod running;
 mod verdict;
 
 use lines::Lines;
