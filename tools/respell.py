@@ -46,7 +46,7 @@ def declared_names(files):
 def turned(text, names):
     def new(found):
         # a step of a generated record is named by the code: only one that has a function's name is respelled
-        step = text[: found.start()].endswith(("c.", "w.")) and names.get(found.group()) not in FUNCTIONS
+        step = re.search(r"\b[cw]\.$", text[: found.start()]) and names.get(found.group()) not in FUNCTIONS
         return found.group() if step else names.get(found.group(), found.group())
 
     return TOKEN.sub(new, text)

@@ -51,7 +51,7 @@ law_agree g jobs σ τ s agree law =
     let below : Agree σ τ s = λ i l. agree i (omega arith) in
     let here : σ s ≡ τ s = agree s (omega arith) in
     record {
-      not_given = λ not. sym here ∙ law.not-given not;
+      not_given = λ not. sym here ∙ law.not_given not;
       first = λ given k e. first_agree jobs σ τ s below k (law.first given k (here ∙ e));
       none = λ given e. none_pending_agree jobs σ τ s below (law.none given (here ∙ e));
     }
@@ -72,7 +72,7 @@ before_both jobs k j b b' = omega arith
 pub law_determines : (g : ℕ → ℕ) (jobs : List Job) (σ τ : Schedule) (s : ℕ) → Agree σ τ s → Law g jobs σ s → Law g jobs τ s → σ s ≡ τ s
 law_determines g jobs σ τ s agree law law' =
     ⊎_elim (λ (given : Given g s). by_turns given (turn_cases (σ s)) (turn_cases (τ s)))
-    (λ (not : Given g s → ⊥). law.not-given not ∙ sym (law'.not_given not))
+    (λ (not : Given g s → ⊥). law.not_given not ∙ sym (law'.not_given not))
     (cases_eq (g (suc s)) (suc (g s)))
   where
     forth : (k : ℕ) → First jobs σ s k → First jobs τ s k

@@ -58,7 +58,7 @@ module _ (g : ℕ → ℕ) (c : Counting g) (jobs : List Job) (σ : Schedule) (d
   after_slot : (a t : ℕ) → Law g jobs σ t → Busy g jobs σ d a t → Given g t ⊎ (g (suc t) ≡ g t) → (b : ℕ) × Busy g jobs σ d b (suc t)
   after_slot a t law busy (inl given) = after_given a t given law busy (turn_cases (σ t))
   after_slot a t law busy (inr same) =
-      (a, goes_on a t busy (omega (arith, work_idle σ (due jobs d) (length jobs) t (law.not-given (omega arith)))))
+      (a, goes_on a t busy (omega (arith, work_idle σ (due jobs d) (length jobs) t (law.not_given (omega arith)))))
 
   busy : (t : ℕ) → Follows g jobs σ t → (a : ℕ) × Busy g jobs σ d a t
   busy zero follows = (0, record { before = omega arith; finished = λ k there by released. omega arith; used = refl })

@@ -38,7 +38,7 @@ module _ (g : ℕ → ℕ) (jobs : List Job) (σ : Schedule) where
   pub served_given : (s k : ℕ) → Law g jobs σ s → σ s ≡ serves k → Given g s
   served_given s k law e =
       ⊎_elim (λ (given : Given g s). given)
-      (λ (not : Given g s → ⊥). absurd (idle_serves_none (σ s) k (law.not-given not) e))
+      (λ (not : Given g s → ⊥). absurd (idle_serves_none (σ s) k (law.not_given not) e))
       (cases_eq (g (suc s)) (suc (g s)))
 
   -- the job that a slot serves is pending

@@ -1,5 +1,7 @@
 // Earliest-deadline-first scheduling of timed jobs over given slots. The theorems stand on the contracts of functions that
 // do nothing else.
+#![tactic(auto)]
+
 mod theorems;
 
 pub use theorems::{

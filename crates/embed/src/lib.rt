@@ -1,4 +1,6 @@
 // The library for C code: the report on a sheet, its verdict, and the run of a list of jobs on its lines.
+#![tactic(auto)]
+
 mod answers;
 mod border;
 mod calls;

@@ -1,4 +1,6 @@
 // Compares the library with figures that are known, and with counts job by job of random sets of lines.
+#![tactic(auto)]
+
 mod expected;
 mod jobs;
 mod known;

@@ -1,4 +1,6 @@
 // The sheet's grammar: what bytes spell, and what a sheet means.
+#![tactic(auto)]
+
 mod fields;
 mod theorems;
 

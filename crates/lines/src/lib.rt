@@ -1,4 +1,6 @@
 // Phone lines: their figures, how many jobs fall due, where they rest and which deadlines have to be watched.
+#![tactic(auto)]
+
 mod deadlines;
 mod laws;
 mod line;

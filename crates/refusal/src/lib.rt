@@ -1,4 +1,6 @@
 // Why a call is turned down: a reason from a fixed table, the layer that refused, and the place.
+#![tactic(auto)]
+
 ghost use Rattle.std.specs.Prelude.{◌≡◌, ℕ};
 
 mod layer;

@@ -1,4 +1,6 @@
 // The sheet program: a sheet on standard input, the report on it on standard output.
+#![tactic(auto)]
+
 use anyhow::anyhow;
 use sheet::report;
 use std::io::{Read, Write};

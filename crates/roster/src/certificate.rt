@@ -107,7 +107,7 @@ fn weighed_count(line: &Line, bytes: &[u8]) -> u64
 // The weighed sum of what the supply is sure to give by the cites.
 fn weighed_least<S: Supply>(supply: &S, bytes: &[u8]) -> u64
     requires { Whole bytes.now }
-    ensures { result ≡ weighed (meaning supply.now).least (cites_of bytes.now) }
+    ensures { result ≡ weighed (S.meaning supply.now).least (cites_of bytes.now) }
 {
     let mut sum = 0;
     for k in 0..bytes.len() / 4 {
@@ -141,7 +141,7 @@ pub(crate) fn check_supply<S: Supply>(
     bytes: &[u8],
 ) -> Result<(), Refusal>
     requires { Whole bytes.now }
-    ensures { Answered result (supply_check (meaning supply.now) d divisor (cites_of bytes.now) ∷ []) (λ _. Unit {0}) }
+    ensures { Answered result (supply_check (S.meaning supply.now) d divisor (cites_of bytes.now) ∷ []) (λ _. Unit {0}) }
 {
     let (least, _) = supply.least(d);
     if weighed_least(supply, bytes) > term(divisor, least) {

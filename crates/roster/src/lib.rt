@@ -1,4 +1,6 @@
 // The roster of an office mail gateway: its lines over a supply of slots, which deadlines have to be looked at, and the verdict.
+#![tactic(auto)]
+
 mod call;
 mod certificate;
 mod history;

@@ -1,4 +1,6 @@
 // Compares the roster with figures that are known, and with bad input.
+#![tactic(auto)]
+
 mod bad_input;
 mod calls;
 mod known;

@@ -1,4 +1,6 @@
 // Compares random rosters with slow counts, written from the definitions alone: jobs, slots and instants one by one.
+#![tactic(auto)]
+
 mod certificate;
 mod counts;
 mod jobs;

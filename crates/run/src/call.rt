@@ -23,10 +23,10 @@ pub fn run<S: Supply>(
 ) -> Result<Outcome, Refusal>
     ensures refused_by_checks { Answered result (run_checks (rows_of lines.now) jobs.now (length slots.old)) (λ _. Unit {0}) }
     ensures refusal_leaves_slots { OnErr result (slots.new ≡ slots.old) }
-    ensures slots_follow_edf { IfOk result (λ o. ByLaw (meaning supply.now) phase (rows_of lines.now) jobs.now slots.new o) }
-    ensures entries_well_written { IfOk result (λ o. WellWritten (meaning supply.now) phase (rows_of lines.now) jobs.now slots.new o) }
-    ensures met_exactly { IfOk result (λ o. MetExactly (meaning supply.now) phase (rows_of lines.now) jobs.now slots.new o) }
-    ensures miss_is_final { IfOk result (λ o. MissFinal (meaning supply.now) phase (rows_of lines.now) jobs.now o) }
+    ensures slots_follow_edf { IfOk result (λ o. ByLaw (S.meaning supply.now) phase (rows_of lines.now) jobs.now slots.new o) }
+    ensures entries_well_written { IfOk result (λ o. WellWritten (S.meaning supply.now) phase (rows_of lines.now) jobs.now slots.new o) }
+    ensures met_exactly { IfOk result (λ o. MetExactly (S.meaning supply.now) phase (rows_of lines.now) jobs.now slots.new o) }
+    ensures miss_is_final { IfOk result (λ o. MissFinal (S.meaning supply.now) phase (rows_of lines.now) jobs.now o) }
 {
     let end = check_jobs(lines, jobs)?;
     if slots.len() < usize::from(end) {

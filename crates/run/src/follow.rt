@@ -82,8 +82,8 @@ pub(crate) fn follow<S: Supply>(
     slots: &mut [u16],
 ) -> Outcome
     requires { Keeping (timed_list (rows_of lines.now) jobs.now) (line_at jobs.now) × DueBy (timed_list (rows_of lines.now) jobs.now) «end» × (length jobs.now ≤ 2048) × («end» ≤ length slots.old) × ((s : ℕ) → entry slots.old s ≡ 65535) }
-    ensures runs { Runs (given_in (meaning supply.now) phase) (timed_list (rows_of lines.now) jobs.now) «end» (schedule slots.new) (outcome result) }
-    ensures entries { Entries (given_in (meaning supply.now) phase) slots.new (ending «end» result) }
+    ensures runs { Runs (given_in (S.meaning supply.now) phase) (timed_list (rows_of lines.now) jobs.now) «end» (schedule slots.new) (outcome result) }
+    ensures entries { Entries (given_in (S.meaning supply.now) phase) slots.new (ending «end» result) }
 {
     let mut table = Table::none();
     let mut next = 0;

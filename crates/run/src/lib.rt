@@ -1,4 +1,6 @@
 // The run: a list of jobs on the given slots of a supply, slot by slot, by earliest deadline first.
+#![tactic(auto)]
+
 mod call;
 mod checks;
 mod follow;

@@ -1,4 +1,5 @@
 // Shows the run at work: a known overload, the edges of its checks, and random lists against a slow simulation.
+#![tactic(auto)]
 
 mod cases;
 mod random;

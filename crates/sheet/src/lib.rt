@@ -1,4 +1,6 @@
 // Sheets: the bytes by which a roster travels from office to office, read, written and reported on.
+#![tactic(auto)]
+
 mod draft;
 mod reading;
 mod records;

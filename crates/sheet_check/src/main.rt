@@ -1,5 +1,7 @@
 // Compares what is read of sheets, reported on them and written, with a plain reader, which cuts a sheet into its records first
 // and judges them then.
+#![tactic(auto)]
+
 mod alike;
 mod base;
 mod bench;

@@ -11,6 +11,10 @@ use Rattle.supply.specs.Meaning.{Meaning, Counting, Counts, Windows, Attained, L
 use Rattle.supply.specs.Row.{from}
 use Rattle.supply.specs.Share.{pattern, shared, share, most_phases, LawfulPattern}
 
+-- the laws of a supply together
+pub lawful_of : {m : Meaning} → Counts m → Windows m → Attained m → Lawful m
+lawful_of counts windows attained = record { counts = counts; windows = windows; attained = attained }
+
 -- more slots are counted no lower
 counted_up : (f : ℕ → ℕ) → Counting f → (x y : ℕ) → x ≤ y → f x ≤ f y
 counted_up f c x y up = let more : x + (y - x) ≡ y = omega arith in omega (arith, counted_more f c x (y - x), ap f more)

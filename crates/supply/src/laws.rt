@@ -7,7 +7,7 @@ use crate::supply::Supply;
 
 // For every supply: least is at most the number of slots, grows with it, and adds up over windows.
 pub fn least_laws<S: Supply>(supply: &S)
-    ensures { LeastLaws (meaning supply.now) }
+    ensures { LeastLaws (S.meaning supply.now) }
 {}
 
 // For every row of at least one slot, as a supply that repeats for ever: it is lawful, its worst phase is the first of

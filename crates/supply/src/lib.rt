@@ -1,4 +1,6 @@
 // Supplies of slots: which milliseconds of the processor the gateway may use.
+#![tactic(auto)]
+
 mod laws;
 mod named;
 mod pattern;

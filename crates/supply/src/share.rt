@@ -1,5 +1,6 @@
 ghost use Rattle.std.specs.Prelude.{◌≡◌, ◌*◌, ◌<◌, ◌≤◌, MatchOption};
 ghost use Rattle.supply.specs.Making.{MakesShare, no_share};
+ghost use Rattle.supply.specs.Piles.{lawful_of, share_lawful};
 ghost use Rattle.supply.specs.Share.{most_phases, share};
 
 use crate::pattern::Pattern;
@@ -53,7 +54,7 @@ fn unlawful<B>(below: B) -> ShareRefused<B>
 impl<B: Supply> Share<B> {
     // A share of s in f over a supply, or a refusal that hands the supply back.
     pub fn new(below: B, s: u8, f: u8) -> Result<Share<B>, ShareRefused<B>>
-        ensures { MakesShare (meaning below) below s f result }
+        ensures { MakesShare (B.meaning below) below s f result }
     {
         if piled_phases(below.phases(), f as u32).is_none() {
             return Err(unlawful(below));
@@ -66,7 +67,13 @@ impl<B: Supply> Share<B> {
 }
 
 impl<B: Supply> Supply for Share<B> {
-    ghost meaning = { λ s. share s.pattern.given s.pattern.of (B.Supply.meaning s.below) };
+    ghost meaning = { λ s. share s.pattern.given s.pattern.of (B.meaning s.below) };
+
+    ghost counts = { λ s. (share_lawful (B.meaning s.below) (lawful_of (B.counts s.below) (B.windows s.below) (B.attained s.below)) s.pattern.given s.pattern.of s.pattern.lawful).counts };
+
+    ghost windows = { λ s. (share_lawful (B.meaning s.below) (lawful_of (B.counts s.below) (B.windows s.below) (B.attained s.below)) s.pattern.given s.pattern.of s.pattern.lawful).windows };
+
+    ghost attained = { λ s. (share_lawful (B.meaning s.below) (lawful_of (B.counts s.below) (B.windows s.below) (B.attained s.below)) s.pattern.given s.pattern.of s.pattern.lawful).attained };
 
     fn phases(&self) -> u32 {
         let below = self.below.phases();

@@ -1,5 +1,7 @@
 // Compares the answers of timetables and shares with a count slot by slot, written from their definitions alone, and prints
 // what was compared, the figures of small supplies, and the refusals of bad input.
+#![tactic(auto)]
+
 mod bad_input;
 mod piles;
 mod player;

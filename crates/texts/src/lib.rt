@@ -1,4 +1,6 @@
 // What a person reads of a roster: counts, surveys, job lists, runs with their charts, and why a deadline is or is not watched.
+#![tactic(auto)]
+
 mod certificate;
 mod chart;
 mod counts;

@@ -27,7 +27,7 @@ impl<S: Supply> Roster<S> {
 
     // One line more, which gets the next number; every deadline up to the first rest point is then looked at.
     pub fn enrol(&mut self, row: Row) -> Result<u8, Refusal>
-        ensures { Works (meaning self.old.supply) self.old self.new (enrol row) result (λ number. number ≡ length (rows_in self.old)) }
+        ensures { Works (S.meaning self.old.supply) self.old self.new (enrol row) result (λ number. number ≡ length (rows_in self.old)) }
     {
         let number = self.lines.len();
         let (lines, watched) = self.lines.add(row)?;
@@ -38,7 +38,7 @@ impl<S: Supply> Roster<S> {
 
     // A line leaves, and the later ones are numbered one lower; every deadline up to the first rest point is then looked at.
     pub fn strike(&mut self, number: u8) -> Result<(), Refusal>
-        ensures { Works (meaning self.old.supply) self.old self.new (strike number) result (λ _. Unit {0}) }
+        ensures { Works (S.meaning self.old.supply) self.old self.new (strike number) result (λ _. Unit {0}) }
     {
         let Some(rest) = self.lines.remove(usize::from(number)) else {
             return Err(Refusal::by(Layer::Roster, Reason::NoSuchLine).at(u32::from(number)));
@@ -51,14 +51,14 @@ impl<S: Supply> Roster<S> {
 
     // A line gets a new cost; the deadlines that are looked at stay.
     pub fn recost(&mut self, number: u8, cost: u16) -> Result<(), Refusal>
-        ensures { Works (meaning self.old.supply) self.old self.new (recost number cost) result (λ _. Unit {0}) }
+        ensures { Works (S.meaning self.old.supply) self.old self.new (recost number cost) result (λ _. Unit {0}) }
     {
         self.lines.recost(number, cost)
     }
 
     // A deadline need not be looked at any more, where its certificate is accepted.
     pub fn cut(&mut self, deadline: u16, divisor: u16, cites: &[u8]) -> Result<(), Refusal>
-        ensures { Works (meaning self.old.supply) self.old self.new (cut deadline divisor (cites_of cites.now)) result (λ _. Unit {0}) }
+        ensures { Works (S.meaning self.old.supply) self.old self.new (cut deadline divisor (cites_of cites.now)) result (λ _. Unit {0}) }
     {
         self.certified(deadline, divisor, cites)?;
         self.watched = self.watched.without(deadline);
@@ -67,7 +67,7 @@ impl<S: Supply> Roster<S> {
 
     // Whether a certificate is accepted.
     fn certified(&self, deadline: u16, divisor: u16, cites: &[u8]) -> Result<(), Refusal>
-        ensures { Answered result (cut_checks (meaning self.now.supply) (rows_in self.now) (watched_in self.now) deadline divisor (cites_of cites.now)) (λ _. Unit {0}) }
+        ensures { Answered result (cut_checks (S.meaning self.now.supply) (rows_in self.now) (watched_in self.now) deadline divisor (cites_of cites.now)) (λ _. Unit {0}) }
     {
         check_figures(divisor, cites)?;
         if !self.watched.contains(deadline) {

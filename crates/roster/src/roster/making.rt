@@ -9,7 +9,7 @@ use supply::Supply;
 impl<S: Supply> Roster<S> {
     // Makes a call, whichever it is.
     pub fn make(&mut self, call: Call) -> Result<(), Refusal>
-        ensures { Works (meaning self.old.supply) self.old self.new (call_of call.entry) result (λ _. Unit {0}) }
+        ensures { Works (S.meaning self.old.supply) self.old self.new (call_of call.entry) result (λ _. Unit {0}) }
     {
         match call {
             Call::Enrol(row) => match self.enrol(row) {

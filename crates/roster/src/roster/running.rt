@@ -21,11 +21,11 @@ impl<S: Supply> Roster<S> {
     pub fn run(&self, phase: u32, jobs: &[Job], slots: &mut [u16]) -> Result<Outcome, Refusal>
         ensures refused_by_checks { Answered result (run_checks (rows_in self.now) jobs.now (length slots.old)) (λ _. Unit {0}) }
         ensures refusal_leaves_slots { OnErr result (slots.new ≡ slots.old) }
-        ensures slots_follow_edf { IfOk result (λ o. ByLaw (meaning self.now.supply) phase (rows_in self.now) jobs.now slots.new o) }
-        ensures entries_well_written { IfOk result (λ o. WellWritten (meaning self.now.supply) phase (rows_in self.now) jobs.now slots.new o) }
-        ensures met_exactly { IfOk result (λ o. MetExactly (meaning self.now.supply) phase (rows_in self.now) jobs.now slots.new o) }
-        ensures miss_is_final { IfOk result (λ o. MissFinal (meaning self.now.supply) phase (rows_in self.now) jobs.now o) }
-        ensures fitting_lines_meet_all { (calls : List Call) → Reached (meaning self.now.supply) calls (rows_in self.now) (watched_in self.now) → Verdict (meaning self.now.supply) (rows_in self.now) (watched_in self.now) None → Legal (rows_in self.now) jobs.now → IfOk result (λ o. outcome o ≡ met) }
+        ensures slots_follow_edf { IfOk result (λ o. ByLaw (S.meaning self.now.supply) phase (rows_in self.now) jobs.now slots.new o) }
+        ensures entries_well_written { IfOk result (λ o. WellWritten (S.meaning self.now.supply) phase (rows_in self.now) jobs.now slots.new o) }
+        ensures met_exactly { IfOk result (λ o. MetExactly (S.meaning self.now.supply) phase (rows_in self.now) jobs.now slots.new o) }
+        ensures miss_is_final { IfOk result (λ o. MissFinal (S.meaning self.now.supply) phase (rows_in self.now) jobs.now o) }
+        ensures fitting_lines_meet_all { (calls : List Call) → Reached (S.meaning self.now.supply) calls (rows_in self.now) (watched_in self.now) → Verdict (S.meaning self.now.supply) (rows_in self.now) (watched_in self.now) None → Legal (rows_in self.now) jobs.now → IfOk result (λ o. outcome o ≡ met) }
     {
         run::run(&self.supply, phase, &self.lines, jobs, slots)
     }

@@ -13,8 +13,8 @@ impl<S: Supply> Roster<S> {
     // The overloaded deadline: the least of all deadlines at which the lines ask for more than the supply is sure to give.
     // There is none where they fit.
     pub fn verdict(&self) -> Option<u16>
-        ensures says { Verdict (meaning self.now.supply) (rows_in self.now) (watched_in self.now) result }
-        ensures exact { (calls : List Call) → Reached (meaning self.now.supply) calls (rows_in self.now) (watched_in self.now) → ExactVerdict (meaning self.now.supply) (rows_in self.now) result }
+        ensures says { Verdict (S.meaning self.now.supply) (rows_in self.now) (watched_in self.now) result }
+        ensures exact { (calls : List Call) → Reached (S.meaning self.now.supply) calls (rows_in self.now) (watched_in self.now) → ExactVerdict (S.meaning self.now.supply) (rows_in self.now) result }
     {
         match self.watched_overload() {
             None => None,
@@ -24,7 +24,7 @@ impl<S: Supply> Roster<S> {
 
     // Whether the lines ask for more at t than the supply is sure to give.
     fn exceeds(&self, t: u16) -> bool
-        ensures { MatchBool result (Exceeds (meaning self.now.supply) (rows_in self.now) t) (Within (meaning self.now.supply) (rows_in self.now) t) }
+        ensures { MatchBool result (Exceeds (S.meaning self.now.supply) (rows_in self.now) t) (Within (S.meaning self.now.supply) (rows_in self.now) t) }
     {
         let (least, _) = self.supply.least(t);
         self.lines.demand(t) > u32::from(least)
@@ -32,7 +32,7 @@ impl<S: Supply> Roster<S> {
 
     // A watched deadline at which the lines ask for too much, if there is one.
     fn watched_overload(&self) -> Option<u16>
-        ensures { MatchOption result ((d : ℕ) → Has (watched_in self.now) d → Within (meaning self.now.supply) (rows_in self.now) d) (λ d. Has (watched_in self.now) d × Exceeds (meaning self.now.supply) (rows_in self.now) d) }
+        ensures { MatchOption result ((d : ℕ) → Has (watched_in self.now) d → Within (S.meaning self.now.supply) (rows_in self.now) d) (λ d. Has (watched_in self.now) d × Exceeds (S.meaning self.now.supply) (rows_in self.now) d) }
     {
         let list = self.watched.as_slice();
         for d in list {
@@ -45,7 +45,7 @@ impl<S: Supply> Roster<S> {
 
     // The first deadline up to a last one at which the lines ask for too much, if there is one.
     fn first_overload(&self, last: u16) -> Option<u16>
-        ensures { MatchOption result ((t : ℕ) → t ≤ last → Within (meaning self.now.supply) (rows_in self.now) t) (λ t. Overloaded (meaning self.now.supply) (rows_in self.now) t) }
+        ensures { MatchOption result ((t : ℕ) → t ≤ last → Within (S.meaning self.now.supply) (rows_in self.now) t) (λ t. Overloaded (S.meaning self.now.supply) (rows_in self.now) t) }
     {
         let mut at = 0;
         while let Some(d) = self.lines.next_deadline(at, last) {

@@ -24,4 +24,4 @@ loop-d-preserved c =
     (next.1, pushed ∙ sym (deadlines_next _ _ _ next.0 next.2 next.3))
 
 pub returns : goal.returns
-returns c = c.loop-d.invariant.1 ∙ sym (deadlines_quiet _ _ _ c.loop-d.invariant.0 c.in-default.ensures)
+returns c = c.loop-d.invariant.1 ∙ sym (deadlines_quiet _ _ _ c.loop-d.invariant.0 c.in_default.ensures)

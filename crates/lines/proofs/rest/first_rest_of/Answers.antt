@@ -25,4 +25,4 @@ loop-later-preserved c = (
 pub returns : goal.returns
 returns c =
     let inv = c.loop-later.invariant in
-    (sym (first_rest_is _ _ c.requires.0 inv.0 inv.1 c.in-default.ensures inv.2), omega (arith, inv.1, c.requires.1))
+    (sym (first_rest_is _ _ c.requires.0 inv.0 inv.1 c.in_default.ensures inv.2), omega (arith, inv.1, c.requires.1))

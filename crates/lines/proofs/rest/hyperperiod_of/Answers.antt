@@ -8,15 +8,15 @@ pub loop-row-init : goal.loop-row-init
 unfolding first every product
 loop-row-init c = (omega arith, refl, omega arith)
 
-pub least-common-requires : goal.least-common-requires
-least-common-requires c =
+pub least_common-requires : goal.least_common-requires
+least_common-requires c =
     let lawful = c.requires c.loop-row.row-index c.loop-row-test.true in
     let some = hyperperiod_positive _ (lawful_take _ c.loop-row.row-index c.requires) in
     omega (arith, c.loop-row.invariant.1, c.loop-row.invariant.2)
 
-pub returns-in-default : goal.returns-in-default
-returns-in-default c =
-    c.in-default.ensures _ (hyperperiod_over _ c.loop-row.row-index c.loop-row-test.true c.requires _ c.loop-row.invariant.1)
+pub returns-in_default : goal.returns-in_default
+returns-in_default c =
+    c.in_default.ensures _ (hyperperiod_over _ c.loop-row.row-index c.loop-row-test.true c.requires _ c.loop-row.invariant.1)
 
 pub loop-row-preserved : goal.loop-row-preserved
 loop-row-preserved c =

@@ -12,8 +12,8 @@ use Rattle.roster.proofs.certificate.check_counts.Goals as goal
 use Rattle.roster.specs.Certificate.{listed, cites_of, weight_check, cited_check, count_check}
 use Rattle.std.proofs.lemmas.List.{length-take}
 
-pub returns-then-weighed-count-term : goal.returns-then-weighed-count-term
-returns-then-weighed-count-term c =
+pub returns-then-weighed_count-term : goal.returns-then-weighed_count-term
+returns-then-weighed_count-term c =
     let cites = cites_of c.args.bytes.now in
     let divisor = c.args.divisor in
     let d = c.args.d in
@@ -22,7 +22,7 @@ returns-then-weighed-count-term c =
     let here = c.in-Some.ensures in
     let row = c.in-Some.line.row in
     let asked = c.term.ensures.product ∙ ap (λ n. divisor * n) c.count.ensures in
-    let less : weighed (count row) cites < divisor * count row d = omega (arith, c.weighed-count.ensures, asked, c.if-weighed-count-term.true) in
+    let less : weighed (count row) cites < divisor * count row d = omega (arith, c.weighed_count.ensures, asked, c.if-weighed_count-term.true) in
     let bad : ltb (weighed (count row) cites) (divisor * count row d) ≡ true = grind arith in
     reading_stops (count_check d divisor cites) 0 rows number no_row here.0 (ap (λ r. ltb (weighed (count r) cites) (divisor * count r d)) (sym here.1) ∙ bad) c.loop-line.invariant.1 ∙ ap (λ p. Some (check_at p true CountNotCovered).refusal) (zero-add number) ∙ ap Some (refused_at _ _ CountNotCovered number c.by.ensures c.at.ensures)
 
@@ -37,10 +37,10 @@ loop-line-preserved c =
     let here = c.in-Some.ensures in
     let row = c.in-Some.line.row in
     let asked = c.term.ensures.product ∙ ap (λ n. divisor * n) c.count.ensures in
-    let fits : divisor * count row d ≤ weighed (count row) cites = omega (arith, c.weighed-count.ensures, asked, c.if-weighed-count-term.false) in
+    let fits : divisor * count row d ≤ weighed (count row) cites = omega (arith, c.weighed_count.ensures, asked, c.if-weighed_count-term.false) in
     let fine : ltb (weighed (count row) cites) (divisor * count row d) ≡ false = grind arith in
     (omega (arith, here.0, length-take lines.len lines.rows, lines.within), reading_more (count_check d divisor cites) 0 rows number no_row here.0 (ap (λ r. ltb (weighed (count r) cites) (divisor * count r d)) (sym here.1) ∙ fine) c.loop-line.invariant.1)
 
 pub returns : goal.returns
 returns c =
-    (reading_all (count_check c.args.d c.args.divisor (cites_of c.args.bytes.now)) 0 (rows_of c.args.lines.now) c.loop-line.number c.in-default.ensures c.loop-line.invariant.1, tt)
+    (reading_all (count_check c.args.d c.args.divisor (cites_of c.args.bytes.now)) 0 (rows_of c.args.lines.now) c.loop-line.number c.in_default.ensures c.loop-line.invariant.1, tt)

@@ -10,8 +10,8 @@ use Rattle.roster.proofs.Spelling.{no_cite, spelled_length, spelled_at, weighed_
 use Rattle.roster.proofs.certificate.weighed_count.Goals as goal
 use Rattle.roster.specs.Certificate.{listed, cites_of, weight_check, cited_check, count_check}
 
-pub overflow-add-sum : goal.overflow-add-sum
-overflow-add-sum c =
+pub overflow_add-sum : goal.overflow_add-sum
+overflow_add-sum c =
     omega (arith, c.loop-k.invariant.1, c.term-sum.ensures.bound, c.loop-k-test.true, c.requires.1, div-add-mod' (length c.args.bytes.now) 4)
 
 pub loop-k-preserved : goal.loop-k-preserved

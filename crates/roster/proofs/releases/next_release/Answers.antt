@@ -29,5 +29,5 @@ pub returns : goal.returns
 returns c = record {
   later = c.loop-line.invariant.1;
   bound = c.loop-line.invariant.2;
-  none_between = unreleased_all (rows_of c.args.lines.now) c.args.after c.loop-line.number c.loop-line.first c.in-default.ensures c.loop-line.invariant.3;
+  none_between = unreleased_all (rows_of c.args.lines.now) c.args.after c.loop-line.number c.loop-line.first c.in_default.ensures c.loop-line.invariant.3;
 }

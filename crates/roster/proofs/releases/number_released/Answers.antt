@@ -19,5 +19,5 @@ pub returns : goal.returns
 returns c =
     let lines = c.args.lines.now in
     let t = c.args.t in
-    let none = at_drop_all (sum_by (λ row. count row t)) (rows_of lines) c.loop-line.number c.in-default.ensures in
+    let none = at_drop_all (sum_by (λ row. count row t)) (rows_of lines) c.loop-line.number c.in_default.ensures in
     omega (arith, c.loop-line.invariant.2, none, witness_length (rows_of lines) t lines.lawful)

@@ -28,19 +28,19 @@ final : (g : ℕ → ℕ) → Counting g → (jobs : List Timed) (b : ℕ) (σ :
 final g counting jobs b σ met runs not = absurd (not refl)
 final g counting jobs b σ (missed k d) runs not = run_optimal g counting jobs b σ k d runs
 
-pub returns-in-err-end : goal.returns-in-err-end
-returns-in-err-end g c =
+pub returns-in_err-end : goal.returns-in_err-end
+returns-in_err-end g c =
     let p = err_from_is_err_and c.from-residual.result c.from-residual.ensures.1 in
     let rows = rows_of c.args.lines.now in
     let jobs = c.args.jobs.now in
-    let refused = refusal_first (list_checks rows jobs) _ _ c.in-err-end.ensures in
+    let refused = refusal_first (list_checks rows jobs) _ _ c.in_err-end.ensures in
     rw (p.1, p.2) (record { refused_by_checks = refused; refusal_leaves_slots = refl; slots_follow_edf = tt; entries_well_written = tt; met_exactly = tt; miss_is_final = tt })
 
 pub returns-then-slots-from : goal.returns-then-slots-from
 returns-then-slots-from g c =
     let rows = rows_of c.args.lines.now in
     let jobs = c.args.jobs.now in
-    let taken = c.in-ok-end.ensures in
+    let taken = c.in_ok-end.ensures in
     let short = too_short rows jobs (length c.args.slots.now) taken.0 (omega (arith, c.if-slots-from.true, c.from.ensures, taken.1)) in
     let place : c.from-then-slots-from.result ≡ horizon rows jobs = c.from-then-slots-from.ensures ∙ taken.1 in
     let named = c.refused.ensures ∙ ap (λ n. run_refusal n) place in
@@ -51,7 +51,7 @@ follow-requires g c =
     let lines = c.args.lines.now in
     let rows = rows_of lines in
     let jobs = c.args.jobs.now in
-    let taken = c.in-ok-end.ensures in
+    let taken = c.in_ok-end.ensures in
     let list = list_taken rows jobs taken.0 in
     let few : length rows ≤ 8 = omega (arith, length-take lines.len lines.rows, lines.within) in
     (passed_keeping rows jobs lines.lawful few list.1, λ k l. omega (arith, due_by_horizon rows jobs k l, taken.1), list.0, omega (arith, c.if-slots-from.false, c.from.ensures), c.clear.ensures)
@@ -63,7 +63,7 @@ returns g c =
     let meaning = g.S.Supply.meaning c.args.supply.now in
     let given = given_in meaning c.args.phase in
     let slots = c.follow.new.slots in
-    let taken = c.in-ok-end.ensures in
+    let taken = c.in_ok-end.ensures in
     let runs = subst (λ b. Runs given (timed_list rows jobs) b (schedule slots) (outcome c.follow.result)) taken.1 c.follow.ensures.runs in
     record {
       refused_by_checks = (long_enough rows jobs (length c.args.slots.now) taken.0 (omega (arith, c.if-slots-from.false, c.from.ensures, taken.1)), tt);

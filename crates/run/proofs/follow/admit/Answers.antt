@@ -9,8 +9,8 @@ use Rattle.run.specs.Timed.{at, line_at, timed, timed_list}
 use Rattle.run.specs.declared.ready.Ready.{Ready}
 use Rattle.std.proofs.lemmas.List.{length-map}
 
-pub deadline-of-requires : goal.deadline-of-requires
-deadline-of-requires c =
+pub deadline_of-requires : goal.deadline_of-requires
+deadline_of-requires c =
     let rows = rows_of c.args.lines.now in
     let jobs = c.args.jobs.now in
     let there = timed_there rows jobs c.loop-next.next c.loop-next-test.true in
@@ -27,13 +27,13 @@ loop-next-preserved c =
     let rows = rows_of c.args.lines.now in
     let jobs = c.args.jobs.now in
     let n = c.loop-next.next in
-    let ready : Ready = record { place = n; deadline = c.deadline-of.result; left = (at jobs n).cost } in
+    let ready : Ready = record { place = n; deadline = c.deadline_of.result; left = (at jobs n).cost } in
     let there = timed_there rows jobs n c.loop-next-test.true in
     let is = timed_at rows jobs n c.loop-next-test.true in
     let released : (job (timed_list rows jobs) n).release ≤ c.args.at = omega (arith, c.if-jobs-next.true, ap (λ (t : Timed). t.release) is) in
     let put : c.put.new.self.jobs ≡ set c.loop-next.table.jobs (line_at jobs n) ready = c.put.ensures ∙ ap (λ i. set c.loop-next.table.jobs i ready) c.from.ensures in
     let cursor = cursor_more (timed_list rows jobs) (line_at jobs) c.requires.0 c.args.at n c.loop-next.invariant.0 there released in
-    let admits = admits_more (timed_list rows jobs) (line_at jobs) c.requires.0 c.args.at c.args.from n c.args.table.now.jobs c.loop-next.table.jobs ready c.loop-next.table.room there c.loop-next.invariant.0 released (omega arith) (c.deadline-of.ensures ∙ sym (ap (λ (t : Timed). t.deadline) is)) (sym (ap (λ (t : Timed). t.cost) is)) c.loop-next.invariant.1 in (
+    let admits = admits_more (timed_list rows jobs) (line_at jobs) c.requires.0 c.args.at c.args.from n c.args.table.now.jobs c.loop-next.table.jobs ready c.loop-next.table.room there c.loop-next.invariant.0 released (omega arith) (c.deadline_of.ensures ∙ sym (ap (λ (t : Timed). t.deadline) is)) (sym (ap (λ (t : Timed). t.cost) is)) c.loop-next.invariant.1 in (
       subst (Cursor (timed_list rows jobs) c.args.at c.args.at) (sym (add-one n)) cursor,
       subst (λ m. Admits (timed_list rows jobs) (line_at jobs) c.args.at c.args.from c.args.table.now.jobs m c.put.new.self.jobs) (sym (add-one n))
           (subst (Admits (timed_list rows jobs) (line_at jobs) c.args.at c.args.from c.args.table.now.jobs _) (sym put) admits),

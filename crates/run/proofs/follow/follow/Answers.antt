@@ -10,8 +10,8 @@ use Rattle.run.specs.Timed.{line_at, timed, timed_list}
 use Rattle.run.specs.declared.table.Table.{Table}
 use Rattle.std.proofs.lemmas.List.{length-map}
 
-pub entry-for-requires : goal.entry-for-requires
-entry-for-requires g c =
+pub entry_for-requires : goal.entry_for-requires
+entry_for-requires g c =
     let given = given_in (g.S.Supply.meaning c.args.supply.now) c.args.phase in
     let jobs = timed_list (rows_of c.args.lines.now) c.args.jobs.now in
     let lines = line_at c.args.jobs.now in
@@ -66,7 +66,7 @@ loop-s-preserved g c =
     let jobs = timed_list (rows_of c.args.lines.now) c.args.jobs.now in
     let lines = line_at c.args.jobs.now in
     let served = filled_slot g (at·loop-s-again g c).After-overdue in
-    let later = c.in-default.ensures in
+    let later = c.in_default.ensures in
     let filled = filled_more given jobs lines c.requires.0 c.if-after-before.slots c.loop-s.s _ _ served (λ i w. omega (arith, later i w, add-one c.loop-s.s)) in
     (subst (λ s. Filled given jobs lines c.if-after-before.slots s c.admit-next.result c.if-after-before.table.jobs) (sym (add-one c.loop-s.s)) filled, c.count-after.ensures)
 

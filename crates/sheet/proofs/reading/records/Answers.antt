@@ -21,8 +21,8 @@ took : (c : goal.In-Taken) → Takes c.loop-record.roster c.step.new.roster (dro
 took c =
     stepped c.loop-record.roster c.step.new.roster c.loop-record.before c.args.bytes.now c.loop-record.at (Ok c.in-Ok.record) (Ok (Taken c.in-Taken.size)) (ap Ok c.in-Taken.is) c.in-Ok.ensures
 
-pub overflow-add-at : goal.overflow-add-at
-overflow-add-at c = record { fits = omega (arith, record_within _ _ _ _ c.loop-record.invariant _ _ (took c), c.requires.1) }
+pub overflow_add-at : goal.overflow_add-at
+overflow_add-at c = record { fits = omega (arith, record_within _ _ _ _ c.loop-record.invariant _ _ (took c), c.requires.1) }
 
 pub loop-record-smaller : goal.loop-record-smaller
 loop-record-smaller c =

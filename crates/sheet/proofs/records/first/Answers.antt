@@ -4,8 +4,8 @@ use Rattle.grammar.specs.Reading.{FaultFirst, cut_short, misplaced}
 use Rattle.sheet.proofs.records.first.Goals as goal
 use Rattle.sheet.specs.Stepping.{Opening}
 
-pub returns-in-default : goal.returns-in-default
-returns-in-default c =
+pub returns-in_default : goal.returns-in_default
+returns-in_default c =
     let bytes = c.args.bytes.now in
     let few : length bytes < 2 = omega (arith, ltb-true, ltb-false) in
     subst (λ why. FaultFirst bytes why) (sym c.by_sheet.ensures) (cut_short (inl few))
@@ -23,4 +23,4 @@ returns-in-len2-up c =
     let bytes = c.args.bytes.now in
     let long : 2 ≤ length bytes = omega (arith, ltb-true, ltb-false) in
     let other : Unlike 83 85 bytes = λ s u. search rules in
-    subst (λ why. FaultFirst bytes why) (sym c.by-sheet-in-len2-up.ensures) (misplaced (misplaced_first bytes long other))
+    subst (λ why. FaultFirst bytes why) (sym c.by_sheet-in-len2-up.ensures) (misplaced (misplaced_first bytes long other))

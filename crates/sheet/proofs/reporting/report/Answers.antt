@@ -9,14 +9,14 @@ returns-in-Ok c =
     record {
       text = _;
       reports = subst (λ text. Reports c.args.bytes.now text) (sym tells.text_is) (accepted c.in-Ok.roster tells.verdict leaves tells.says (tells.exact _ leaves.history));
-      answered = c.hand-over.ensures.answer;
-      list_holds_text = c.hand-over.ensures.list;
+      answered = c.hand_over.ensures.answer;
+      list_holds_text = c.hand_over.ensures.list;
     }
 
 pub returns-in-Err : goal.returns-in-Err
 returns-in-Err c = record {
   text = _;
-  reports = subst (λ text. Reports c.args.bytes.now text) (sym c.refusal-line.ensures) (refused c.in-Err.refusal c.in-Err.ensures);
-  answered = c.hand-over-in-Err.ensures.answer;
-  list_holds_text = c.hand-over-in-Err.ensures.list;
+  reports = subst (λ text. Reports c.args.bytes.now text) (sym c.refusal_line.ensures) (refused c.in-Err.refusal c.in-Err.ensures);
+  answered = c.hand_over-in-Err.ensures.answer;
+  list_holds_text = c.hand_over-in-Err.ensures.list;
 }

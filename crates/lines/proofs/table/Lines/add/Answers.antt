@@ -14,7 +14,7 @@ pub checked-requires : goal.checked-requires
 checked-requires c =
     let self = c.args.self.now in
     let row = c.row.result in
-    let lawful = subst (λ r. Lawful r) (sym c.row.ensures) c.in-ok-line.line.lawful in
+    let lawful = subst (λ r. Lawful r) (sym c.row.ensures) c.in_ok-line.line.lawful in
     let pushed = take_more_set self.rows self.len row (omega (arith, self.room, c.if-self-ge8.false)) in
     (length-set self.rows self.len row ∙ self.room, omega (arith, c.if-self-ge8.false), subst (λ rows. AllLawful rows) (sym pushed) (lawful_push (rows_of self) row self.lawful lawful))
 
@@ -23,7 +23,7 @@ returns c =
     let self = c.args.self.now in
     let rows = rows_of self in
     let row = c.args.row in
-    let made = c.in-ok-line.ensures in
+    let made = c.in_ok-line.ensures in
     let table = take (self.len + 1) (set self.rows self.len c.row.result) in
     let read = take_more_set self.rows self.len c.row.result (omega (arith, self.room, c.if-self-ge8.false)) in
     let pushed : table ≡ rows ++ (row ∷ []) = read ∙ ap (λ r. rows ++ (r ∷ [])) (c.row.ensures ∙ made.1) in

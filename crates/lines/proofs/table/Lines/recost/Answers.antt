@@ -7,8 +7,8 @@ use Rattle.lines.specs.Of.{rows_of}
 use Rattle.lines.specs.Rest.{hyperperiod, full_list}
 use Rattle.std.proofs.lemmas.List.{length-set, length-take}
 
-pub invariant-of-self : goal.invariant-of-self
-invariant-of-self c =
+pub invariant_of-self : goal.invariant_of-self
+invariant_of-self c =
     let self = c.args.self.now in
     let at = c.from-at.result in
     let cost = c.args.cost in
@@ -17,7 +17,13 @@ invariant-of-self c =
     let there : at < length rows = omega (arith, c.if-at-self.false, self.room, self.within) in
     let made : take self.len (set self.rows at (recosted (get_or self.rows at no_row) cost)) ≡ with_cost rows at cost = front_recosted self.rows self.len at cost c.if-at-self.false in
     let alike = alike_recosted rows at cost in
-    (length-set self.rows at (recosted (get_or self.rows at no_row) cost) ∙ self.room, (self.within, (subst (λ rs. AllLawful rs) (sym made) (lawful_recosted rows at cost there c.if-cost-lt1.false c.if-cost-gt1000.false self.lawful), (omega (arith, ap hyperperiod made, hyperperiod_alike _ _ alike, self.brief), (omega (arith, ap (λ rs. length (full_list rs)) made, ap length (full_list_alike _ _ alike), self.few), tt)))))
+    record {
+      room = length-set self.rows at (recosted (get_or self.rows at no_row) cost) ∙ self.room;
+      within = self.within;
+      lawful = subst (λ rs. AllLawful rs) (sym made) (lawful_recosted rows at cost there c.if-cost-lt1.false c.if-cost-gt1000.false self.lawful);
+      brief = omega (arith, ap hyperperiod made, hyperperiod_alike _ _ alike, self.brief);
+      few = omega (arith, ap (λ rs. length (full_list rs)) made, ap length (full_list_alike _ _ alike), self.few);
+    }
 
 pub returns : goal.returns
 returns c =

@@ -18,8 +18,8 @@ bounded c =
     let most : c.count.result * c.of-line.result.row.cost ≤ 65535 * 1000 = mul-le-mul {n₂ = 65535} (omega arith) lawful.4 in
     omega (arith, c.work-sum.ensures)
 
-pub overflow-add-sum : goal.overflow-add-sum
-overflow-add-sum c = let most = bounded c in omega (arith, c.loop-row.invariant.1, c.requires.1, c.loop-row-test.true)
+pub overflow_add-sum : goal.overflow_add-sum
+overflow_add-sum c = let most = bounded c in omega (arith, c.loop-row.invariant.1, c.requires.1, c.loop-row-test.true)
 
 pub loop-row-preserved : goal.loop-row-preserved
 unfolding demand

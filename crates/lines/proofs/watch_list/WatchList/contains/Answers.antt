@@ -6,5 +6,5 @@ use Rattle.std.proofs.lemmas.Bool.Decides.{Decides-eqb}
 
 pub returns : goal.returns
 returns c =
-    let seen = contains_decides eqb Decides-eqb c.as-slice.result.now c.args.d c.contains.result c.contains.ensures.cases in
-    subst (λ ds. Decides c.contains.result (Has ds c.args.d)) c.as-slice.ensures seen
+    let seen = contains_decides eqb Decides-eqb c.as_slice.result.now c.args.d c.contains.result c.contains.ensures.cases in
+    subst (λ ds. Decides c.contains.result (Has ds c.args.d)) c.as_slice.ensures seen

@@ -13,10 +13,10 @@ pub loop-x-preserved : goal.loop-x-preserved
 loop-x-preserved c =
     let self = c.args.self.now in
     let i = c.loop-x.x-index in
-    let list = c.as-slice-list.result.now in
+    let list = c.as_slice-list.result.now in
     let x = get_or list i 0 in
     let old = c.loop-x.invariant.0 in
-    let space : length (watched c.loop-x.rest) < 256 = omega (arith, c.loop-x.invariant.1, c.loop-x-test.true, ap length c.as-slice-list.ensures, length-take self.len self.deadlines, self.within) in
+    let space : length (watched c.loop-x.rest) < 256 = omega (arith, c.loop-x.invariant.1, c.loop-x-test.true, ap length c.as_slice-list.ensures, length-take self.len self.deadlines, self.within) in
     elim c.if-x-d.branch [
       | then-x-d w ↦
           let more = pushed _ _ _ x w.push.ensures space in
@@ -29,4 +29,4 @@ loop-x-preserved c =
 
 pub returns : goal.returns
 returns c =
-    c.loop-x.invariant.0 ∙ ap (without c.args.d) (take_all c.loop-x.x-index c.as-slice-list.result.now c.loop-x-test.false ∙ c.as-slice-list.ensures)
+    c.loop-x.invariant.0 ∙ ap (without c.args.d) (take_all c.loop-x.x-index c.as_slice-list.result.now c.loop-x-test.false ∙ c.as_slice-list.ensures)

@@ -9,8 +9,8 @@ use Rattle.std.proofs.lemmas.Result.{err_from_is_err_and}
 use Rattle.std.proofs.lemmas.Bool.{cond-true}
 use Rattle.std.proofs.Common.{true, false, not, [], ◌∷◌, Some, sym, ap, ◌∙◌}
 
-pub returns-in-err-check-figures : goal.returns-in-err-check-figures
-returns-in-err-check-figures g c =
+pub returns-in_err-check_figures : goal.returns-in_err-check_figures
+returns-in_err-check_figures g c =
     let self = c.args.self.now in
     let m = g.S.Supply.meaning self.supply in
     let rows = rows_in self in
@@ -19,7 +19,7 @@ returns-in-err-check-figures g c =
     let q = c.args.divisor in
     let cites = cites_of c.args.cites.now in
     let p = err_from_is_err_and c.from-residual.result c.from-residual.ensures.1 in
-    rw (p.1, p.2) (refusal_first (figure_checks q cites) (behind_figures m rows W d q cites) _ c.in-err-check-figures.ensures)
+    rw (p.1, p.2) (refusal_first (figure_checks q cites) (behind_figures m rows W d q cites) _ c.in_err-check_figures.ensures)
 
 pub returns-then-not-contains : goal.returns-then-not-contains
 returns-then-not-contains g c =
@@ -31,10 +31,10 @@ returns-then-not-contains g c =
     let q = c.args.divisor in
     let cites = cites_of c.args.cites.now in
     let off = decided false d W c.if-not-contains.ensures in
-    past_figures m rows W d q cites c.in-ok-check-figures.ensures.0 ∙ cond-true (not (listed d W)) _ _ (ap not off) ∙ ap Some (sym c.by.ensures)
+    past_figures m rows W d q cites c.in_ok-check_figures.ensures.0 ∙ cond-true (not (listed d W)) _ _ (ap not off) ∙ ap Some (sym c.by.ensures)
 
-pub returns-in-err-check-cites : goal.returns-in-err-check-cites
-returns-in-err-check-cites g c =
+pub returns-in_err-check_cites : goal.returns-in_err-check_cites
+returns-in_err-check_cites g c =
     let self = c.args.self.now in
     let m = g.S.Supply.meaning self.supply in
     let rows = rows_in self in
@@ -43,11 +43,11 @@ returns-in-err-check-cites g c =
     let q = c.args.divisor in
     let cites = cites_of c.args.cites.now in
     let on = decided true d W c.if-not-contains.ensures in
-    let p = err_from_is_err_and c.from-residual-in-err-check-cites.result c.from-residual-in-err-check-cites.ensures.1 in
-    rw (p.1, p.2) (past_watched m rows W d q cites c.in-ok-check-figures.ensures.0 on ∙ refusal_first (each (cited_check W d) 1 cites) (behind_cites m rows W d q cites) _ c.in-err-check-cites.ensures)
+    let p = err_from_is_err_and c.from-residual-in_err-check_cites.result c.from-residual-in_err-check_cites.ensures.1 in
+    rw (p.1, p.2) (past_watched m rows W d q cites c.in_ok-check_figures.ensures.0 on ∙ refusal_first (each (cited_check W d) 1 cites) (behind_cites m rows W d q cites) _ c.in_err-check_cites.ensures)
 
-pub returns-in-err-check-counts : goal.returns-in-err-check-counts
-returns-in-err-check-counts g c =
+pub returns-in_err-check_counts : goal.returns-in_err-check_counts
+returns-in_err-check_counts g c =
     let self = c.args.self.now in
     let m = g.S.Supply.meaning self.supply in
     let rows = rows_in self in
@@ -56,8 +56,8 @@ returns-in-err-check-counts g c =
     let q = c.args.divisor in
     let cites = cites_of c.args.cites.now in
     let on = decided true d W c.if-not-contains.ensures in
-    let p = err_from_is_err_and c.from-residual-in-err-check-counts.result c.from-residual-in-err-check-counts.ensures.1 in
-    rw (p.1, p.2) (past_cites m rows W d q cites c.in-ok-check-figures.ensures.0 on c.in-ok-check-cites.ensures.0 ∙ refusal_first (each (count_check d q cites) 0 rows) (behind_counts m rows W d q cites) _ c.in-err-check-counts.ensures)
+    let p = err_from_is_err_and c.from-residual-in_err-check_counts.result c.from-residual-in_err-check_counts.ensures.1 in
+    rw (p.1, p.2) (past_cites m rows W d q cites c.in_ok-check_figures.ensures.0 on c.in_ok-check_cites.ensures.0 ∙ refusal_first (each (count_check d q cites) 0 rows) (behind_counts m rows W d q cites) _ c.in_err-check_counts.ensures)
 
 pub returns : goal.returns
 returns g c =
@@ -69,4 +69,4 @@ returns g c =
     let q = c.args.divisor in
     let cites = cites_of c.args.cites.now in
     let on = decided true d W c.if-not-contains.ensures in
-    answered_alike c.check-supply.result (supply_check m d q cites ∷ []) (cut_checks m rows W d q cites) _ _ (sym (past_counts m rows W d q cites c.in-ok-check-figures.ensures.0 on c.in-ok-check-cites.ensures.0 c.in-ok-check-counts.ensures.0)) (λ x h. h) c.check-supply.ensures
+    answered_alike c.check_supply.result (supply_check m d q cites ∷ []) (cut_checks m rows W d q cites) _ _ (sym (past_counts m rows W d q cites c.in_ok-check_figures.ensures.0 on c.in_ok-check_cites.ensures.0 c.in_ok-check_counts.ensures.0)) (λ x h. h) c.check_supply.ensures

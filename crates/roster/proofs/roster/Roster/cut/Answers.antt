@@ -5,11 +5,11 @@ use Rattle.roster.specs.Certificate.{cites_of}
 use Rattle.std.proofs.lemmas.Result.{err_from_is_err_and}
 use Rattle.std.proofs.Common.{Err, refl}
 
-pub returns-in-err-certified : goal.returns-in-err-certified
-returns-in-err-certified g c =
+pub returns-in_err-certified : goal.returns-in_err-certified
+returns-in_err-certified g c =
     let p = err_from_is_err_and c.from-residual.result c.from-residual.ensures.1 in
-    rw (p.1, p.2) (works_by _ c.args.self.now c.args.self.now (cut c.args.deadline c.args.divisor (cites_of c.args.cites.now)) (Err c.in-err-certified.field-0.0) _ c.in-err-certified.ensures refl refl refl)
+    rw (p.1, p.2) (works_by _ c.args.self.now c.args.self.now (cut c.args.deadline c.args.divisor (cites_of c.args.cites.now)) (Err c.in_err-certified.field-0.0) _ c.in_err-certified.ensures refl refl refl)
 
 pub returns : goal.returns
 returns g c =
-    works_by _ c.args.self.now _ (cut c.args.deadline c.args.divisor (cites_of c.args.cites.now)) _ _ c.in-ok-certified.ensures refl c.without-self.ensures refl
+    works_by _ c.args.self.now _ (cut c.args.deadline c.args.divisor (cites_of c.args.cites.now)) _ _ c.in_ok-certified.ensures refl c.without-self.ensures refl

@@ -5,12 +5,12 @@ use Rattle.lines.specs.Rest.{full_list}
 use Rattle.std.proofs.lemmas.Result.{err_from_is_err_and}
 use Rattle.std.proofs.Common.{Err, sym, refl, ap, ◌∙◌}
 
-pub returns-in-err-lines : goal.returns-in-err-lines
-returns-in-err-lines g c =
+pub returns-in_err-lines : goal.returns-in_err-lines
+returns-in_err-lines g c =
     let p = err_from_is_err_and c.from-residual.result c.from-residual.ensures.1 in
-    rw (p.1, p.2) (works_by _ c.args.self.now c.args.self.now (enrol c.args.row) (Err c.in-err-lines.field-0.0) _ c.in-err-lines.ensures refl refl refl)
+    rw (p.1, p.2) (works_by _ c.args.self.now c.args.self.now (enrol c.args.row) (Err c.in_err-lines.field-0.0) _ c.in_err-lines.ensures refl refl refl)
 
 pub returns : goal.returns
 returns g c =
-    let made = c.in-ok-lines.ensures in
+    let made = c.in_ok-lines.ensures in
     works_by _ _ _ (enrol c.args.row) _ _ (made.0, c.len-number.ensures) made.1.0 (made.1.1 ∙ ap full_list made.1.0) refl

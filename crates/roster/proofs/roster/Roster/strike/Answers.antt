@@ -6,12 +6,12 @@ use Rattle.roster.proofs.roster.Roster.strike.Goals as goal
 use Rattle.roster.specs.Working.{rows_in}
 use Rattle.std.specs.List.{remove}
 
-pub returns-in-default : goal.returns-in-default
-returns-in-default g c =
-    let gone : length (rows_in c.args.self.now) ≤ c.args.number = omega (arith, c.in-default.ensures, c.from.ensures) in
+pub returns-in_default : goal.returns-in_default
+returns-in_default g c =
+    let gone : length (rows_in c.args.self.now) ≤ c.args.number = omega (arith, c.in_default.ensures, c.from.ensures) in
     let by = c.by.ensures in
     let at = c.at.ensures in
-    let place = c.from-in-default.ensures in
+    let place = c.from-in_default.ensures in
     works_by _ c.args.self.now c.args.self.now (strike c.args.number) _ _ (grind arith) refl refl refl
 
 pub returns : goal.returns

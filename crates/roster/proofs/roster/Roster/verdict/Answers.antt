@@ -19,8 +19,8 @@ returns-in-Some g c =
     let self = c.args.self.now in
     let met = g.met.S.Supply in
     let over = c.in-Some.ensures in
-    let says = verdict_by (g.S.Supply.meaning self.supply) (rows_in self) (watched_in self) c.in-Some.d over.0 over.1 c.first-overload.result c.first-overload.ensures in
+    let says = verdict_by (g.S.Supply.meaning self.supply) (rows_in self) (watched_in self) c.in-Some.d over.0 over.1 c.first_overload.result c.first_overload.ensures in
     record {
       says = says;
-      exact = λ calls h. verdict_exact (g.S.Supply.meaning self.supply) (record { counts = met.counts self.supply; windows = met.windows self.supply; attained = met.attained self.supply }) calls (rows_in self) (watched_in self) h c.first-overload.result says;
+      exact = λ calls h. verdict_exact (g.S.Supply.meaning self.supply) (record { counts = met.counts self.supply; windows = met.windows self.supply; attained = met.attained self.supply }) calls (rows_in self) (watched_in self) h c.first_overload.result says;
     }

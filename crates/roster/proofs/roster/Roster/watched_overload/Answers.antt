@@ -7,9 +7,9 @@ use Rattle.std.proofs.Common.{◌≡◌, get_or, sym, ap, ◌∙◌, subst, arit
 
 pub returns-then-exceeds : goal.returns-then-exceeds
 returns-then-exceeds g c =
-    (subst (λ ds. Has ds (get_or c.as-slice-list.result.now c.loop-d.d-index 0)) c.as-slice-list.ensures (has_get_or c.as-slice-list.result.now c.loop-d.d-index 0 c.loop-d-test.true), c.if-exceeds.ensures)
+    (subst (λ ds. Has ds (get_or c.as_slice-list.result.now c.loop-d.d-index 0)) c.as_slice-list.ensures (has_get_or c.as_slice-list.result.now c.loop-d.d-index 0 c.loop-d-test.true), c.if-exceeds.ensures)
 
 pub returns : goal.returns
 returns g c d h =
-    let seen = subst (λ ds. Has ds d) (sym c.as-slice-list.ensures) h in
+    let seen = subst (λ ds. Has ds d) (sym c.as_slice-list.ensures) h in
     subst (λ x. Within (g.S.Supply.meaning c.args.self.now.supply) (rows_in c.args.self.now) x) (seen.2 0) (c.loop-d.invariant seen.0 (omega (arith, seen.1, c.loop-d-test.false)))

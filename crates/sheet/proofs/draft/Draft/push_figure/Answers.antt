@@ -5,6 +5,6 @@ use Rattle.std.proofs.Common.{[], ◌∷◌, decimal, arith}
 
 pub returns : goal.returns
 returns c = record {
-  bytes = four (drafted c.args.self.now) c.args.word.now (32 ∷ []) (decimal c.args.n) (10 ∷ []) _ _ _ _ c.push-all.ensures.bytes c.push.ensures.bytes c.push-number.ensures.bytes c.push-2.ensures.bytes;
-  room = omega (arith, c.push-all.ensures.room, c.push.ensures.room, c.push-number.ensures.room, c.push-2.ensures.room);
+  bytes = four (drafted c.args.self.now) c.args.word.now (32 ∷ []) (decimal c.args.n) (10 ∷ []) _ _ _ _ c.push_all.ensures.bytes c.push.ensures.bytes c.push_number.ensures.bytes c.push-2.ensures.bytes;
+  room = omega (arith, c.push_all.ensures.room, c.push.ensures.room, c.push_number.ensures.room, c.push-2.ensures.room);
 }

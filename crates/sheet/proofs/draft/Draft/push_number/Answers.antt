@@ -4,11 +4,11 @@ use Rattle.sheet.specs.Drafts.{drafted}
 use Rattle.std.proofs.lemmas.Fmt.{length-decimal-le}
 use Rattle.std.proofs.lemmas.List.{length-append}
 
-pub push-digits-requires : goal.push-digits-requires
-push-digits-requires c = omega (arith, length-decimal-le 10 c.args.n (omega arith) (omega arith) (omega arith))
+pub push_digits-requires : goal.push_digits-requires
+push_digits-requires c = omega (arith, length-decimal-le 10 c.args.n (omega arith) (omega arith) (omega arith))
 
 pub returns : goal.returns
 returns c = record {
-  bytes = c.push-digits.ensures;
-  room = omega (arith, ap length c.push-digits.ensures, length-append (drafted c.args.self.now) (decimal c.args.n), length-decimal-le 10 c.args.n (omega arith) (omega arith) (omega arith));
+  bytes = c.push_digits.ensures;
+  room = omega (arith, ap length c.push_digits.ensures, length-append (drafted c.args.self.now) (decimal c.args.n), length-decimal-le 10 c.args.n (omega arith) (omega arith) (omega arith));
 }

@@ -5,13 +5,13 @@ use Rattle.supply.specs.Rows.{from_within}
 use Rattle.supply.specs.Share.{pattern}
 use Rattle.supply.proofs.pattern.Pattern.taken_before.Goals as goal
 
-pub overflow-mul-result : goal.overflow-mul-result
-overflow-mul-result c =
+pub overflow_mul-result : goal.overflow_mul-result
+overflow_mul-result c =
     let p = c.args.self.now in
     omega (arith, c.ranges.x, taken_before p.given p.of p.lawful c.args.x, from_within (pattern p.given p.of) 0 c.args.x)
 
-pub overflow-add-result : goal.overflow-add-result
-overflow-add-result c =
+pub overflow_add-result : goal.overflow_add-result
+overflow_add-result c =
     let p = c.args.self.now in
     omega (arith, c.ranges.x, taken_before p.given p.of p.lawful c.args.x, from_within (pattern p.given p.of) 0 c.args.x)
 

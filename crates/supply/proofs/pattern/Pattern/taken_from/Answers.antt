@@ -4,13 +4,13 @@ use Rattle.supply.specs.Rows.{from_difference, from_within}
 use Rattle.supply.specs.Share.{pattern}
 use Rattle.supply.proofs.pattern.Pattern.taken_from.Goals as goal
 
-pub overflow-sub-result : goal.overflow-sub-result
-overflow-sub-result c =
+pub overflow_sub-result : goal.overflow_sub-result
+overflow_sub-result c =
     let p = c.args.self.now in
     omega (arith, from_difference (pattern p.given p.of) c.args.start c.args.x)
 
-pub overflow-cast-result : goal.overflow-cast-result
-overflow-cast-result c =
+pub overflow_cast-result : goal.overflow_cast-result
+overflow_cast-result c =
     let p = c.args.self.now in
     omega (arith, c.ranges.x, from_difference (pattern p.given p.of) c.args.start c.args.x, from_within (pattern p.given p.of) c.args.start c.args.x)
 

@@ -5,13 +5,13 @@ use Rattle.supply.specs.Rows.{from_within}
 use Rattle.supply.specs.Timetable.{bits}
 use Rattle.supply.proofs.timetable.Timetable.given_before.Goals as goal
 
-pub overflow-mul-result : goal.overflow-mul-result
-overflow-mul-result c =
+pub overflow_mul-result : goal.overflow_mul-result
+overflow_mul-result c =
     let t = c.args.self.now in
     omega (arith, c.ranges.x, before_by_ones t.length t.word c.args.x t.lawful, from_within (bits t.length t.word) 0 c.args.x)
 
-pub overflow-add-result : goal.overflow-add-result
-overflow-add-result c =
+pub overflow_add-result : goal.overflow_add-result
+overflow_add-result c =
     let t = c.args.self.now in
     omega (arith, c.ranges.x, before_by_ones t.length t.word c.args.x t.lawful, from_within (bits t.length t.word) 0 c.args.x)
 
