@@ -30,7 +30,7 @@ final g counting jobs b σ (missed k d) runs not = run_optimal g counting jobs b
 
 pub returns-in_err-end : goal.returns-in_err-end
 returns-in_err-end g c =
-    let p = err_from_is_err_and c.from-residual.result c.from-residual.ensures.1 in
+    let p = err_from_is_err_and c.from_residual.result c.from_residual.ensures.1 in
     let rows = rows_of c.args.lines.now in
     let jobs = c.args.jobs.now in
     let refused = refusal_first (list_checks rows jobs) _ _ c.in_err-end.ensures in

@@ -6,11 +6,11 @@ use Rattle.std.proofs.lemmas.Result.{err_from_is_err_and}
 use Rattle.std.proofs.Common.{sym, ap, ◌∙◌, arith}
 
 pub loop-place-init : goal.loop-place-init
-loop-place-init c = (passed_none _ _, omega (arith, c.if-jobs-gt-MOST-JOBS.false))
+loop-place-init c = (passed_none _ _, omega (arith, c.if-jobs-gt-MOST_JOBS.false))
 
 pub returns-in_err-row : goal.returns-in_err-row
 returns-in_err-row c =
-    let p = err_from_is_err_and c.from-residual.result c.from-residual.ensures.1 in
+    let p = err_from_is_err_and c.from_residual.result c.from_residual.ensures.1 in
     let same = checks_same (rows_of c.args.lines.now) c.args.jobs.now c.loop-place.place _ _ _ c.loop-place.invariant.0 in
     let refused = ap refusalOf (sym same) ∙ c.in_err-row.ensures in
     let first = first_refusal (rows_of c.args.lines.now) c.args.jobs.now c.loop-place.place _ _ c.loop-place-test.true c.loop-place.invariant.0.passed refused in

@@ -4,7 +4,7 @@ use Rattle.lines.specs.Of.{rows_of}
 use Rattle.run.proofs.Filling.{Filled, Served, count_given, count_not_given, filled_admitted, served_small, served_not_given, served_given, filled_more, filled_missed, filled_met}
 use Rattle.run.proofs.follow.follow.Given as given
 use Rattle.run.proofs.follow.follow.Goals as goal
-use Rattle.run.proofs.follow.follow.Goals.{then-after-before, else-after-before, After-overdue, at·loop-s-again, at·returns-in-Some}
+use Rattle.run.proofs.follow.follow.Goals.{then-after-before, else-after-before, After-overdue}
 use Rattle.run.specs.Slots.{given_in, entry_for, schedule, Entries}
 use Rattle.run.specs.Timed.{line_at, timed, timed_list}
 use Rattle.run.specs.declared.table.Table.{Table}
@@ -52,7 +52,7 @@ returns-in-Some g c =
     let jobs = timed_list (rows_of c.args.lines.now) c.args.jobs.now in
     let lines = line_at c.args.jobs.now in
     let slots = c.if-after-before.slots in
-    let served = filled_slot g (at·returns-in-Some g c).After-overdue in
+    let served = filled_slot g (goal.at.returns-in-Some g c).After-overdue in
     let late = c.in-Some.ensures in
     let missed-next = filled_missed given jobs lines c.requires.0 slots c.loop-s.s _ _ served c.args.«end» late.0 c.in-Some.job late.1 (omega (arith, late.2, add-one c.loop-s.s)) late.3 in
     record {
@@ -65,7 +65,7 @@ loop-s-preserved g c =
     let given = given_in (g.S.Supply.meaning c.args.supply.now) c.args.phase in
     let jobs = timed_list (rows_of c.args.lines.now) c.args.jobs.now in
     let lines = line_at c.args.jobs.now in
-    let served = filled_slot g (at·loop-s-again g c).After-overdue in
+    let served = filled_slot g (goal.at.loop-s-preserved g c).After-overdue in
     let later = c.in_default.ensures in
     let filled = filled_more given jobs lines c.requires.0 c.if-after-before.slots c.loop-s.s _ _ served (λ i w. omega (arith, later i w, add-one c.loop-s.s)) in
     (subst (λ s. Filled given jobs lines c.if-after-before.slots s c.admit-next.result c.if-after-before.table.jobs) (sym (add-one c.loop-s.s)) filled, c.count-after.ensures)

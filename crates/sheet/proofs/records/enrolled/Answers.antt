@@ -17,7 +17,7 @@ returns-in_default c count =
 pub returns-in_err-enrol : goal.returns-in_err-enrol
 returns-in_err-enrol c =
     let xs = c.args.fields.now in
-    let p = err_from_is_err_and c.from-residual.result c.from-residual.ensures.1 in
+    let p = err_from_is_err_and c.from_residual.result c.from_residual.ensures.1 in
     let enough : 6 ≤ length xs = omega (arith, ltb-true, ltb-false) in
     rw (p.1, p.2) (refused c.args.roster.now _ _ (drop 6 xs) (line (row_in xs)) (spells_line xs (λ i. (c.type-inv.fields i).fits) enough) _ (cc) _ _ c.in_err-enrol.ensures)
 

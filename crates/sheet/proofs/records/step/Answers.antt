@@ -10,7 +10,7 @@ use Rattle.supply.specs.Named.{named}
 pub returns-in_err-enrolled : goal.returns-in_err-enrolled
 returns-in_err-enrolled c =
     let rest = c.args.rest.now in
-    let p = err_from_is_err_and c.from-residual.result c.from-residual.ensures.1 in
+    let p = err_from_is_err_and c.from_residual.result c.from_residual.ensures.1 in
     let long : 2 ≤ length rest = omega (arith, ltb-true, ltb-false) in
     let first : get_or rest 0 0 ≡ 76 = search rules in
     let second : get_or rest 1 0 ≡ 78 = search rules in
@@ -19,7 +19,7 @@ returns-in_err-enrolled c =
 pub returns-in_err-cut : goal.returns-in_err-cut
 returns-in_err-cut c =
     let rest = c.args.rest.now in
-    let p = err_from_is_err_and c.from-residual-in_err-cut.result c.from-residual-in_err-cut.ensures.1 in
+    let p = err_from_is_err_and c.from_residual-in_err-cut.result c.from_residual-in_err-cut.ensures.1 in
     let long : 2 ≤ length rest = omega (arith, ltb-true, ltb-false) in
     let first : get_or rest 0 0 ≡ 67 = search rules in
     let second : get_or rest 1 0 ≡ 85 = search rules in
@@ -29,7 +29,7 @@ pub returns-in_err-closed : goal.returns-in_err-closed
 returns-in_err-closed c =
     let rest = c.args.rest.now in
     let roster = c.args.roster.now in
-    let p = err_from_is_err_and c.from-residual-in_err-closed.result c.from-residual-in_err-closed.ensures.1 in
+    let p = err_from_is_err_and c.from_residual-in_err-closed.result c.from_residual-in_err-closed.ensures.1 in
     let long : 2 ≤ length rest = omega (arith, ltb-true, ltb-false) in
     let first : get_or rest 0 0 ≡ 69 = search rules in
     let second : get_or rest 1 0 ≡ 78 = search rules in

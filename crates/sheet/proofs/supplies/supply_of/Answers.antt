@@ -6,6 +6,6 @@ use Rattle.std.proofs.Common.{[], ◌∷◌}
 
 pub returns-in_err-bottom : goal.returns-in_err-bottom
 returns-in_err-bottom c =
-    let p = err_from_is_err_and c.from-residual.result c.from-residual.ensures.1 in
+    let p = err_from_is_err_and c.from_residual.result c.from_residual.ensures.1 in
     let fields = c.args.fields in
     rw (p.1, p.2) (refusal_first (timetable_check fields ∷ []) (share_check fields ∷ []) _ c.in_err-bottom.ensures)

@@ -10,7 +10,7 @@ use Rattle.std.proofs.Common.{[], ◌∷◌, length, refl}
 
 pub returns-in_err-supply_of : goal.returns-in_err-supply_of
 returns-in_err-supply_of c =
-    let p = err_from_is_err_and c.from-residual.result c.from-residual.ensures.1 in
+    let p = err_from_is_err_and c.from_residual.result c.from_residual.ensures.1 in
     let fields = c.args.fields in
     let room = room_check (length (plain_sheet fields (rows_of c.args.lines.now))) (length c.args.out.now) ∷ [] in
     rw (p.1, p.2) (record {

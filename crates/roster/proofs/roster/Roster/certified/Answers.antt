@@ -18,7 +18,7 @@ returns-in_err-check_figures g c =
     let d = c.args.deadline in
     let q = c.args.divisor in
     let cites = cites_of c.args.cites.now in
-    let p = err_from_is_err_and c.from-residual.result c.from-residual.ensures.1 in
+    let p = err_from_is_err_and c.from_residual.result c.from_residual.ensures.1 in
     rw (p.1, p.2) (refusal_first (figure_checks q cites) (behind_figures m rows W d q cites) _ c.in_err-check_figures.ensures)
 
 pub returns-then-not-contains : goal.returns-then-not-contains
@@ -43,7 +43,7 @@ returns-in_err-check_cites g c =
     let q = c.args.divisor in
     let cites = cites_of c.args.cites.now in
     let on = decided true d W c.if-not-contains.ensures in
-    let p = err_from_is_err_and c.from-residual-in_err-check_cites.result c.from-residual-in_err-check_cites.ensures.1 in
+    let p = err_from_is_err_and c.from_residual-in_err-check_cites.result c.from_residual-in_err-check_cites.ensures.1 in
     rw (p.1, p.2) (past_watched m rows W d q cites c.in_ok-check_figures.ensures.0 on ∙ refusal_first (each (cited_check W d) 1 cites) (behind_cites m rows W d q cites) _ c.in_err-check_cites.ensures)
 
 pub returns-in_err-check_counts : goal.returns-in_err-check_counts
@@ -56,7 +56,7 @@ returns-in_err-check_counts g c =
     let q = c.args.divisor in
     let cites = cites_of c.args.cites.now in
     let on = decided true d W c.if-not-contains.ensures in
-    let p = err_from_is_err_and c.from-residual-in_err-check_counts.result c.from-residual-in_err-check_counts.ensures.1 in
+    let p = err_from_is_err_and c.from_residual-in_err-check_counts.result c.from_residual-in_err-check_counts.ensures.1 in
     rw (p.1, p.2) (past_cites m rows W d q cites c.in_ok-check_figures.ensures.0 on c.in_ok-check_cites.ensures.0 ∙ refusal_first (each (count_check d q cites) 0 rows) (behind_counts m rows W d q cites) _ c.in_err-check_counts.ensures)
 
 pub returns : goal.returns

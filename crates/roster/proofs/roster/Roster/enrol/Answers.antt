@@ -7,7 +7,7 @@ use Rattle.std.proofs.Common.{Err, sym, refl, ap, ◌∙◌}
 
 pub returns-in_err-lines : goal.returns-in_err-lines
 returns-in_err-lines g c =
-    let p = err_from_is_err_and c.from-residual.result c.from-residual.ensures.1 in
+    let p = err_from_is_err_and c.from_residual.result c.from_residual.ensures.1 in
     rw (p.1, p.2) (works_by _ c.args.self.now c.args.self.now (enrol c.args.row) (Err c.in_err-lines.field-0.0) _ c.in_err-lines.ensures refl refl refl)
 
 pub returns : goal.returns
