@@ -4,7 +4,7 @@ use Rattle.analysis.specs.Legal.{released_at}
 use Rattle.lines.specs.Of.{rows_of}
 use Rattle.roster.proofs.Writing.{written_none, written_more}
 use Rattle.roster.proofs.releases.write_at.Goals as goal
-use Rattle.roster.proofs.releases.write_at.Goals.{in-Some-released-job, in-default-released-job}
+use Rattle.roster.proofs.releases.write_at.Goals.{in-Some-released_job, in_default-released_job}
 use Rattle.roster.specs.Lent.{written}
 use Rattle.std.proofs.lemmas.List.{append-nil, length_push, length-take, take_all}
 
@@ -48,14 +48,14 @@ loop-line-preserved c =
     let within : n + 1 ≤ 8 = omega (arith, here.0, length-take lines.len lines.rows, lines.within) in
     let next : released_at 0 (take (n + 1) rows) t r ≡ before ++ released_at n (c.in-Some.line.row ∷ []) t r = released_more t r rows n here.0 ∙ ap (λ row. before ++ released_at n (row ∷ []) t r) (sym here.1) in
     elim c.match-released_job.branch [
-      | in-Some-released-job w ↦
+      | in-Some-released_job w ↦
           let job = w.in-Some-released_job.job in
           let more = next ∙ ap (λ jobs. before ++ jobs) (sym w.in-Some-released_job.ensures) in
           let longer = ap length more ∙ length_push before job in
           let there : start + length before < length list = omega (arith, longer, released_fewer t r rows (n + 1), c.requires) in
           let wrote = w.list-is ∙ ap₂ (λ xs place. set xs place job) c.loop-line.invariant.2 c.loop-line.invariant.1 in
           (within, omega (arith, w.place-is, c.loop-line.invariant.1, longer), wrote ∙ written_more start before list job there ∙ ap (λ jobs. written start jobs list) (sym more))
-      | in-default-released-job w ↦
+      | in_default-released_job w ↦
           let same = next ∙ ap (λ jobs. before ++ jobs) (sym w.in_default-released_job.ensures) ∙ append-nil before in
           (within, w.place-is ∙ c.loop-line.invariant.1 ∙ ap (λ jobs. start + length jobs) (sym same), w.list-is ∙ c.loop-line.invariant.2 ∙ ap (λ jobs. written start jobs list) (sym same))
     ]
