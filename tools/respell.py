@@ -19,6 +19,7 @@ def listed(*patterns):
     return subprocess.run(["git", "ls-files", *patterns], capture_output=True, text=True, check=True).stdout.split()
 
 
+OTHERS = {"refusalOf": "refusal_of", "getD-padded": "get_or_padded"}
 FUNCTIONS = {name for path in listed("crates/*.rt") for name in re.findall(r"\bfn (\w+)", open(path, encoding="utf8").read())}
 
 
@@ -71,7 +72,7 @@ def rattle_line(line, names):
 
 def main():
     proofs = listed("crates/*.antt")
-    names = {name: respelled(name) for name in declared_names(proofs)}
+    names = {name: respelled(name) for name in declared_names(proofs)} | OTHERS
     forms = [(proofs, antt_line), (listed("crates/*.rt"), rattle_line), (listed("*.md"), in_backticks)]
     for files, form in forms:
         for path in files:

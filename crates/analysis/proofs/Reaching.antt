@@ -14,7 +14,7 @@ use Rattle.lines.specs.Demand.{AllLawful, no_row}
 use Rattle.lines.specs.Demand as lines
 use Rattle.lines.specs.Rest.{first, every, some, product, deadlines, full_list}
 use Rattle.lines.specs.declared.row.Row.{Row}
-use Rattle.refusal.specs.Answers.{refusalOf}
+use Rattle.refusal.specs.Answers.{refusal_of}
 use Rattle.std.specs.List.{remove}
 use Rattle.std.proofs.lemmas.List.Edits.{length-remove, get_or-remove_below, get_or-remove_above}
 use Rattle.std.proofs.lemmas.List.{get_or-set_same, get_or-set_other, length-set, map-set, set-get_or}

@@ -5,7 +5,7 @@ use Rattle.lines.specs.Calls.{add_checks, outside}
 use Rattle.lines.specs.Changes.{with_cost, without}
 use Rattle.lines.specs.Rest.{full_list}
 use Rattle.lines.specs.declared.row.Row.{Row}
-use Rattle.refusal.specs.Answers.{refusalOf}
+use Rattle.refusal.specs.Answers.{refusal_of}
 use Rattle.std.specs.List.{remove, ContainsAt as Has, AllByRecursion as All}
 use Rattle.supply.specs.Meaning.{Meaning}
 
@@ -41,7 +41,7 @@ watched_after rows watched (cut d divisor cites) = without d watched
 -- A call on the lines is taken by its own figures and the lines alone: a line by the checks of adding one, the others where
 -- the line is there, and a cost from 1 to 1,000.
 abbrev pub taken : List Row → Call → Bool
-taken rows (enrol row) = not (is_some (refusalOf (add_checks rows row)))
+taken rows (enrol row) = not (is_some (refusal_of (add_checks rows row)))
 taken rows (strike number) = nat_lt number (length rows)
 taken rows (recost number cost) = nat_lt number (length rows) && not (outside 1 1000 cost)
 taken rows (cut d divisor cites) = true

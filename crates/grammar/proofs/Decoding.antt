@@ -124,8 +124,8 @@ zeros (suc k) zero = refl
 zeros (suc k) (suc i) = zeros k i
 
 -- bytes with zeros behind them hold the same bytes
-getD_padded : (xs : List ℕ) (k i : ℕ) → get_or (xs ++ replicate k 0) i 0 ≡ get_or xs i 0
-getD_padded xs k i =
+get_or_padded : (xs : List ℕ) (k i : ℕ) → get_or (xs ++ replicate k 0) i 0 ≡ get_or xs i 0
+get_or_padded xs k i =
     ⊎_elim (λ (l : i < length xs). get_or_append_left xs (replicate k 0) 0 i l) (λ (l : length xs ≤ i). get_or-append_right xs (replicate k 0) (length xs) i 0 refl l ∙ zeros k (i - length xs) ∙ sym (get_or_past xs i 0 l)) (cases_lt i (length xs))
 
 -- bytes that are too few are cut short, if filled up they may stand
@@ -133,7 +133,7 @@ pub fills : (May : List ℕ → Type 0) (mark xs : List ℕ) (n : ℕ) → lengt
 fills May mark xs n l may =
     let filling : List ℕ = replicate (n - length xs) 0 in
     let long : length filling ≡ n - length xs = length-replicate (n - length xs) 0 in
-    inr (filling, omega arith, subst May (sym (append_assoc mark xs filling)) (may (xs ++ filling) (omega (arith, length-append xs filling)) (getD_padded xs (n - length xs))))
+    inr (filling, omega arith, subst May (sym (append_assoc mark xs filling)) (may (xs ++ filling) (omega (arith, length-append xs filling)) (get_or_padded xs (n - length xs))))
 
 same_bytes : (xs ys : List ℕ) → Bytes xs → ((i : ℕ) → get_or ys i 0 ≡ get_or xs i 0) → Bytes ys
 same_bytes xs ys fit same i = omega (arith, fit i, same i)

@@ -9,7 +9,7 @@ use Rattle.grammar.specs.Supplies.{supply_of}
 use Rattle.grammar.specs.Theorems.{OneReading}
 use Rattle.grammar.specs.declared.fields.Fields.{Fields}
 use Rattle.lines.specs.declared.row.Row.{Row}
-use Rattle.refusal.specs.Answers.{refusalOf}
+use Rattle.refusal.specs.Answers.{refusal_of}
 use Rattle.refusal.specs.declared.Refusal.{Refusal}
 use Rattle.refusal.specs.declared.reason.Reason.TheVariants.{TooLarge, BytesAfterEnd}
 use Rattle.roster.specs.Working.{checks}
@@ -18,7 +18,7 @@ use Rattle.supply.specs.Meaning.{Meaning}
 -- no record begins here whose call is made
 abbrev pub Stops : Meaning → List Row → List ℕ → List ℕ → Type 0
 Stops m rows watched rest =
-    (r : Record) (more : List ℕ) → rest ≡ spelled r ++ more → refusalOf (checks m rows watched (call_of r)) ≡ None → ⊥
+    (r : Record) (more : List ℕ) → rest ≡ spelled r ++ more → refusal_of (checks m rows watched (call_of r)) ≡ None → ⊥
 
 -- the same behind records, over some lines and a watch list
 abbrev pub StopsBehind : Meaning → List Row → List ℕ → List Record → List ℕ → Type 0

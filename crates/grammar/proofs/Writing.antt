@@ -12,7 +12,7 @@ use Rattle.lines.specs.Demand.{Lawful, no_row}
 use Rattle.lines.specs.Laws.{Among}
 use Rattle.lines.specs.Rest.{hyperperiod, full_list}
 use Rattle.lines.specs.declared.row.Row.{Row}
-use Rattle.refusal.specs.Answers.{refusalOf}
+use Rattle.refusal.specs.Answers.{refusal_of}
 use Rattle.std.proofs.lemmas.List.{length-append, length_push, get_or_append_left, get_or_at}
 use Rattle.supply.specs.Meaning.{Meaning}
 
@@ -30,11 +30,11 @@ pub among_front : (few more : List Row) → Among few (few ++ more)
 among_front few more i l = (i, omega (arith, length-append few more), sym (get_or_append_left few more no_row i l))
 
 -- a line passes its checks where it and the lines before it are few, lawful and within the limits
-passes : (rows : List Row) (row : Row) → length rows < 8 → Lawful row → hyperperiod (rows ++ (row ∷ [])) ≤ 30000 → length (full_list (rows ++ (row ∷ []))) ≤ 256 → refusalOf (add_checks rows row) ≡ None
+passes : (rows : List Row) (row : Row) → length rows < 8 → Lawful row → hyperperiod (rows ++ (row ∷ [])) ≤ 30000 → length (full_list (rows ++ (row ∷ []))) ≤ 256 → refusal_of (add_checks rows row) ≡ None
 passes rows row few lawful brief watchable = grind arith
 
 -- as they are at the front of lines that a roster can hold
-front_passes : (rows : List Row) (row : Row) (more : List Row) → Holdable ((rows ++ (row ∷ [])) ++ more) → refusalOf (add_checks rows row) ≡ None
+front_passes : (rows : List Row) (row : Row) (more : List Row) → Holdable ((rows ++ (row ∷ [])) ++ more) → refusal_of (add_checks rows row) ≡ None
 front_passes rows row more h =
     let fewer = fewer_laws (rows ++ (row ∷ [])) ((rows ++ (row ∷ [])) ++ more) (among_front (rows ++ (row ∷ [])) more) h.lawful in
     let long = length-append (rows ++ (row ∷ [])) more in

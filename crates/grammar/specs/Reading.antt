@@ -5,7 +5,7 @@ use Rattle.grammar.specs.Records.{Record, calls_of, call_of, spelled, opening, c
 use Rattle.grammar.specs.Supplies.{supply_of, field_checks}
 use Rattle.grammar.specs.declared.fields.Fields.{Fields}
 use Rattle.lines.specs.declared.row.Row.{Row}
-use Rattle.refusal.specs.Answers.{refusalOf}
+use Rattle.refusal.specs.Answers.{refusal_of}
 use Rattle.refusal.specs.declared.Refusal.{Refusal}
 use Rattle.refusal.specs.declared.layer.Layer.TheVariants.{Sheet}
 use Rattle.refusal.specs.declared.reason.Reason.{Reason}
@@ -26,12 +26,12 @@ watched_through rows watched (call ∷ calls) = watched_through (rows_after rows
 unfoldable pub AllMade : Meaning → List Row → List ℕ → List Call → Type 0
 AllMade m rows watched [] = Unit {0}
 AllMade m rows watched (call ∷ calls) =
-    (refusalOf (checks m rows watched call) ≡ None) × AllMade m (rows_after rows call) (watched_after rows watched call) calls
+    (refusal_of (checks m rows watched call) ≡ None) × AllMade m (rows_after rows call) (watched_after rows watched call) calls
 
 -- A sheet is good up to a rest: its first record names a supply, and each record between asks for a call that is made.
 pub record GoodTo (bytes : List ℕ) (fields : Fields) (records : List Record) (rest : List ℕ) : Type 0 where
   pub bytes_are : bytes ≡ opening fields ++ (spelled_all records ++ rest)
-  pub supply_named : refusalOf (field_checks fields) ≡ None
+  pub supply_named : refusal_of (field_checks fields) ≡ None
   pub calls_made : AllMade (supply_of fields) [] [] (calls_of records)
 
 -- The longest sheet, in bytes.
@@ -66,13 +66,13 @@ by_sheet why = record { reason = why; layer = Sheet; place = 0 }
 pub data FaultFirst (bytes : List ℕ) : Refusal → Type 0 where
   cut_short : CutShort First bytes → FaultFirst bytes (by_sheet SheetCutShort)
   misplaced : Misplaced First bytes → FaultFirst bytes (by_sheet MarkMisplaced)
-  unlawful : (fields : Fields) (more : List ℕ) (why : Refusal) → bytes ≡ opening fields ++ more → refusalOf (field_checks fields) ≡ Some why → FaultFirst bytes why
+  unlawful : (fields : Fields) (more : List ℕ) (why : Refusal) → bytes ≡ opening fields ++ more → refusal_of (field_checks fields) ≡ Some why → FaultFirst bytes why
 
 -- What is wrong with the rest of a sheet at its next record, behind others that left some lines and a watch list over a supply.
 pub data Fault (m : Meaning) (rows : List Row) (watched : List ℕ) (before : ℕ) (rest : List ℕ) : Refusal → Type 0 where
   cut_short : CutShort Later rest → Fault m rows watched before rest (by_sheet SheetCutShort)
   misplaced : Misplaced Later rest → Fault m rows watched before rest (by_sheet MarkMisplaced)
-  turned_down : (r : Record) (more : List ℕ) (why : Refusal) → rest ≡ spelled r ++ more → refusalOf (checks m rows watched (call_of r)) ≡ Some why → Fault m rows watched before rest why
+  turned_down : (r : Record) (more : List ℕ) (why : Refusal) → rest ≡ spelled r ++ more → refusal_of (checks m rows watched (call_of r)) ≡ Some why → Fault m rows watched before rest why
   miscounted : (count : ℕ) (more : List ℕ) → rest ≡ closing count ++ more → (count ≢ before) → Fault m rows watched before rest (by_sheet ClosingCountWrong)
 
 -- Why a sheet is refused, with the record, from 1, and the byte at which that record begins, from 0.

@@ -8,7 +8,7 @@ use Rattle.grammar.specs.declared.fields.Fields.{Fields}
 use Rattle.lines.specs.Demand.{AllLawful}
 use Rattle.lines.specs.Rest.{hyperperiod, full_list}
 use Rattle.lines.specs.declared.row.Row.{Row}
-use Rattle.refusal.specs.Answers.{refusalOf}
+use Rattle.refusal.specs.Answers.{refusal_of}
 
 -- A string of bytes has at most one reading. (That it has one is on the contract of the reader.)
 abbrev pub OneReading : Type 0
@@ -34,5 +34,5 @@ pub record Holdable (rows : List Row) : Type 0 where
 -- A sheet that is written from fields that name a supply and from lines that a roster can hold is accepted, with just these.
 abbrev pub WrittenAccepted : Type 0
 WrittenAccepted =
-    (fields : Fields) (rows : List Row) → refusalOf (field_checks fields) ≡ None → Holdable rows
+    (fields : Fields) (rows : List Row) → refusal_of (field_checks fields) ≡ None → Holdable rows
     → Accepted (sheet fields (map line rows)) fields (map line rows)

@@ -19,13 +19,13 @@ abbrev pub check : Bool → Reason → Check
 check = check_at 0
 
 -- The refusal of the first check that fails, if one does.
-abbrev pub refusalOf : List Check → Option Refusal
-refusalOf [] = None
-refusalOf (c ∷ cs) = cond c.fails (Some c.refusal) (refusalOf cs)
+abbrev pub refusal_of : List Check → Option Refusal
+refusal_of [] = None
+refusal_of (c ∷ cs) = cond c.fails (Some c.refusal) (refusal_of cs)
 
 -- The answer is what is promised exactly where no check fails, and else the refusal of the first that does.
 abbrev pub Answered : {A : Type 0} → Result A Refusal → List Check → (A → Type 0) → Type 0
-Answered r checks promised = MatchResult r (λ x. (refusalOf checks ≡ None) × promised x) (λ e. refusalOf checks ≡ Some e)
+Answered r checks promised = MatchResult r (λ x. (refusal_of checks ≡ None) × promised x) (λ e. refusal_of checks ≡ Some e)
 
 -- What a call leaves: something new where it is made, and what was there where it is refused.
 abbrev pub left : {A B : Type 0} → Result A Refusal → (new old : B) → B

@@ -1,45 +1,45 @@
 -- A check of each member of a list passes where it passes each member.
 use Rattle.std.proofs.Common.{◌≡◌, ℕ, suc, ◌+◌, ◌<◌, ◌≤◌, Bool, true, false, cond, List, [], ◌∷◌, length, get_or, drop, Some, None, sym, refl, ap, ◌∙◌, add-zero, arith}
 use Rattle.refusal.proofs.Checks.{passed_first, pass_first}
-use Rattle.refusal.specs.Answers.{Check, refusalOf}
+use Rattle.refusal.specs.Answers.{Check, refusal_of}
 use Rattle.roster.specs.Certificate.{each}
 use Rattle.std.proofs.lemmas.List.{at_drop_more, at_drop_all}
 use Rattle.std.proofs.lemmas.Bool.{cond-true, cond-false}
 use Rattle.std.specs.List.{AllByRecursion as All}
 
 module _ {X : Type 0} (one : ℕ → X → Check) (bad : X → Bool) (same : (place : ℕ) (x : X) → (one place x).fails ≡ bad x) where
-  pub each_passed : (first : ℕ) (xs : List X) → refusalOf (each one first xs) ≡ None → All (λ x. bad x ≡ false) xs
+  pub each_passed : (first : ℕ) (xs : List X) → refusal_of (each one first xs) ≡ None → All (λ x. bad x ≡ false) xs
   unfolding each
   each_passed first [] e = tt
   each_passed first (x ∷ xs) e =
       let here = passed_first (one first x) (each one (suc first) xs) e in
       (sym (same first x) ∙ here.0, each_passed (suc first) xs here.1)
 
-  pub each_passes : (first : ℕ) (xs : List X) → All (λ x. bad x ≡ false) xs → refusalOf (each one first xs) ≡ None
+  pub each_passes : (first : ℕ) (xs : List X) → All (λ x. bad x ≡ false) xs → refusal_of (each one first xs) ≡ None
   unfolding each
   each_passes first [] all = refl
   each_passes first (x ∷ xs) all = pass_first (one first x) (each one (suc first) xs) (same first x ∙ all.0) (each_passes (suc first) xs all.1)
 
 -- a walk over the members, of which the first i have passed
 abbrev pub Reading : {X : Type 0} → (ℕ → X → Check) → ℕ → List X → ℕ → Type 0
-Reading one first xs i = refusalOf (each one first xs) ≡ refusalOf (each one (first + i) (drop i xs))
+Reading one first xs i = refusal_of (each one first xs) ≡ refusal_of (each one (first + i) (drop i xs))
 
 module _ {X : Type 0} (one : ℕ → X → Check) (first : ℕ) (xs : List X) where
   pub reading_none : Reading one first xs 0
-  reading_none = ap (λ p. refusalOf (each one p xs)) (sym (add-zero first))
+  reading_none = ap (λ p. refusal_of (each one p xs)) (sym (add-zero first))
 
-  split : (i : ℕ) (d : X) → i < length xs → refusalOf (each one (first + i) (drop i xs)) ≡ cond (one (first + i) (get_or xs i d)).fails (Some (one (first + i) (get_or xs i d)).refusal) (refusalOf (each one (suc (first + i)) (drop (i + 1) xs)))
+  split : (i : ℕ) (d : X) → i < length xs → refusal_of (each one (first + i) (drop i xs)) ≡ cond (one (first + i) (get_or xs i d)).fails (Some (one (first + i) (get_or xs i d)).refusal) (refusal_of (each one (suc (first + i)) (drop (i + 1) xs)))
   unfolding each
-  split i d l = at_drop_more (λ ys. refusalOf (each one (first + i) ys)) xs i d l
+  split i d l = at_drop_more (λ ys. refusal_of (each one (first + i) ys)) xs i d l
 
   pub reading_more : (i : ℕ) (d : X) → i < length xs → (one (first + i) (get_or xs i d)).fails ≡ false → Reading one first xs i → Reading one first xs (i + 1)
   reading_more i d l fine before =
       let onward : suc (first + i) ≡ first + (i + 1) = omega arith in
-      before ∙ split i d l ∙ cond-false _ _ _ fine ∙ ap (λ p. refusalOf (each one p (drop (i + 1) xs))) onward
+      before ∙ split i d l ∙ cond-false _ _ _ fine ∙ ap (λ p. refusal_of (each one p (drop (i + 1) xs))) onward
 
-  pub reading_stops : (i : ℕ) (d : X) → i < length xs → (one (first + i) (get_or xs i d)).fails ≡ true → Reading one first xs i → refusalOf (each one first xs) ≡ Some (one (first + i) (get_or xs i d)).refusal
+  pub reading_stops : (i : ℕ) (d : X) → i < length xs → (one (first + i) (get_or xs i d)).fails ≡ true → Reading one first xs i → refusal_of (each one first xs) ≡ Some (one (first + i) (get_or xs i d)).refusal
   reading_stops i d l bad before = before ∙ split i d l ∙ cond-true _ _ _ bad
 
-  pub reading_all : (i : ℕ) → length xs ≤ i → Reading one first xs i → refusalOf (each one first xs) ≡ None
+  pub reading_all : (i : ℕ) → length xs ≤ i → Reading one first xs i → refusal_of (each one first xs) ≡ None
   unfolding each
-  reading_all i l before = before ∙ at_drop_all (λ ys. refusalOf (each one (first + i) ys)) xs i l
+  reading_all i l before = before ∙ at_drop_all (λ ys. refusal_of (each one (first + i) ys)) xs i l

@@ -6,7 +6,7 @@ use Rattle.lines.specs.Calls.{outside}
 use Rattle.lines.specs.Demand.{no_row, count}
 use Rattle.lines.specs.declared.row.Row.{Row}
 use Rattle.refusal.proofs.Checks.{passed_first, pass_first, passed_both, pass_both}
-use Rattle.refusal.specs.Answers.{Check, check, refusalOf, Answered, left}
+use Rattle.refusal.specs.Answers.{Check, check, refusal_of, Answered, left}
 use Rattle.refusal.specs.declared.Refusal.{Refusal}
 use Rattle.refusal.specs.declared.reason.Reason.TheVariants.{NotWatched, CertificateOutOfRange}
 use Rattle.roster.proofs.Each.{each_passed, each_passes}
@@ -58,7 +58,7 @@ module _ (m : Meaning) (rows : List Row) (watched : List ℕ) (d divisor : ℕ) 
   abbrev pub behind_figures : List Check
   behind_figures = check (not (listed d watched)) NotWatched ∷ behind_watched
 
-  cut_accepted : refusalOf (cut_checks m rows watched d divisor cites) ≡ None → Accepted m rows watched d divisor cites
+  cut_accepted : refusal_of (cut_checks m rows watched d divisor cites) ≡ None → Accepted m rows watched d divisor cites
   cut_accepted e =
       let figures = passed_both (figure_checks divisor cites) behind_figures e in
       let one = passed_first (check (outside 1 1000 divisor) CertificateOutOfRange) (number_check ∷ each weight_check 1 cites) figures.0 in
@@ -83,7 +83,7 @@ module _ (m : Meaning) (rows : List Row) (watched : List ℕ) (d divisor : ℕ) 
         };
       }
 
-  accepted_cut : Accepted m rows watched d divisor cites → refusalOf (cut_checks m rows watched d divisor cites) ≡ None
+  accepted_cut : Accepted m rows watched d divisor cites → refusal_of (cut_checks m rows watched d divisor cites) ≡ None
   accepted_cut a =
       let weights = each_passes weight_check (λ cite. outside 1 1000 cite.weight) (λ p x. refl) 1 cites (All-weaker _ _ (λ cite h. in_range 1 1000 cite.weight h.0 h.1) cites a.weights_in_range) in
       let cited = each_passes (cited_check watched d) (λ cite. not (listed cite.deadline watched) || eqb cite.deadline d) (λ p x. refl) 1 cites (All-weaker _ _ (λ cite h. fine_cited watched d cite.deadline h.0 h.1) cites a.certifies.cited) in
@@ -97,13 +97,13 @@ module _ (m : Meaning) (rows : List Row) (watched : List ℕ) (d divisor : ℕ) 
       let one = pass_first (check (outside 1 1000 divisor) CertificateOutOfRange) (number_check ∷ each weight_check 1 cites) (in_range 1 1000 divisor a.divisor_in_range.0 a.divisor_in_range.1) two in
       pass_both (figure_checks divisor cites) behind_figures one four
 
-pub passes_made : (m : Meaning) (rows : List Row) (watched : List ℕ) (call : Call) → refusalOf (checks m rows watched call) ≡ None → Made m rows watched call
+pub passes_made : (m : Meaning) (rows : List Row) (watched : List ℕ) (call : Call) → refusal_of (checks m rows watched call) ≡ None → Made m rows watched call
 passes_made m rows watched (enrol row) e = rw e refl
 passes_made m rows watched (strike number) e = grind arith
 passes_made m rows watched (recost number cost) e = grind arith
 passes_made m rows watched (cut d divisor cites) e = cut_accepted m rows watched d divisor cites e
 
-pub made_passes : (m : Meaning) (rows : List Row) (watched : List ℕ) (call : Call) (e : Refusal) → refusalOf (checks m rows watched call) ≡ Some e → Made m rows watched call → ⊥
+pub made_passes : (m : Meaning) (rows : List Row) (watched : List ℕ) (call : Call) (e : Refusal) → refusal_of (checks m rows watched call) ≡ Some e → Made m rows watched call → ⊥
 made_passes m rows watched (enrol row) e some h = grind arith
 made_passes m rows watched (strike number) e some h = grind arith
 made_passes m rows watched (recost number cost) e some h = grind arith

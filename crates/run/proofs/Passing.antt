@@ -4,7 +4,7 @@ use Rattle.edf.specs.Jobs.{Job as Timed, job, DueBy}
 use Rattle.lines.specs.Demand.{AllLawful}
 use Rattle.lines.specs.declared.row.Row.{Row}
 use Rattle.refusal.proofs.Checks.{refusal_behind, refusal_first}
-use Rattle.refusal.specs.Answers.{Check, refusalOf}
+use Rattle.refusal.specs.Answers.{Check, refusal_of}
 use Rattle.refusal.specs.declared.Refusal.{Refusal}
 use Rattle.refusal.specs.declared.layer.Layer.TheVariants.{Run}
 use Rattle.refusal.specs.declared.reason.Reason.TheVariants.{ListTooShort}
@@ -24,36 +24,36 @@ pub timed_there : (rows : List Row) (jobs : List Job) (k : ℕ) → k < length j
 timed_there rows jobs k l = omega (arith, length-map jobs (timed rows))
 
 -- checks of which none fails, in two parts
-none_parts : (cs ds : List Check) → refusalOf (cs ++ ds) ≡ None → (refusalOf cs ≡ None) × (refusalOf ds ≡ None)
-none_parts cs ds e = go (refusalOf cs) refl
+none_parts : (cs ds : List Check) → refusal_of (cs ++ ds) ≡ None → (refusal_of cs ≡ None) × (refusal_of ds ≡ None)
+none_parts cs ds e = go (refusal_of cs) refl
   where
-    go : (o : Option Refusal) → refusalOf cs ≡ o → (refusalOf cs ≡ None) × (refusalOf ds ≡ None)
+    go : (o : Option Refusal) → refusal_of cs ≡ o → (refusal_of cs ≡ None) × (refusal_of ds ≡ None)
     go None h = (h, sym (refusal_behind cs ds h) ∙ e)
     go (Some r) h = absurd (let first = refusal_first cs ds r h in grind arith)
 
 module _ (rows : List Row) (jobs : List Job) where
   -- the refusal of the job at place n, where those before it passed
-  pub first_refusal : (n m : ℕ) (e : Refusal) → n < m → refusalOf (first_checks rows jobs n) ≡ None → refusalOf (job_checks rows jobs n) ≡ Some e → refusalOf (first_checks rows jobs m) ≡ Some e
+  pub first_refusal : (n m : ℕ) (e : Refusal) → n < m → refusal_of (first_checks rows jobs n) ≡ None → refusal_of (job_checks rows jobs n) ≡ Some e → refusal_of (first_checks rows jobs m) ≡ Some e
   unfolding first_checks
   first_refusal n m e l passed refused =
-      le_ind (λ i. refusalOf (first_checks rows jobs i) ≡ Some e)
+      le_ind (λ i. refusal_of (first_checks rows jobs i) ≡ Some e)
       (refusal_behind (first_checks rows jobs n) (job_checks rows jobs n) passed ∙ refused)
       (λ i from below. refusal_first (first_checks rows jobs i) (job_checks rows jobs i) e below)
       m l
 
   -- one job more that passes
-  first_passed : (n : ℕ) → refusalOf (first_checks rows jobs n) ≡ None → refusalOf (job_checks rows jobs n) ≡ None → refusalOf (first_checks rows jobs (suc n)) ≡ None
+  first_passed : (n : ℕ) → refusal_of (first_checks rows jobs n) ≡ None → refusal_of (job_checks rows jobs n) ≡ None → refusal_of (first_checks rows jobs (suc n)) ≡ None
   unfolding first_checks
   first_passed n passed here = refusal_behind (first_checks rows jobs n) (job_checks rows jobs n) passed ∙ here
 
   -- each job of a list that passed has passed
-  pub passed_at : (n : ℕ) → refusalOf (first_checks rows jobs n) ≡ None → (k : ℕ) → k < n → refusalOf (job_checks rows jobs k) ≡ None
+  pub passed_at : (n : ℕ) → refusal_of (first_checks rows jobs n) ≡ None → (k : ℕ) → k < n → refusal_of (job_checks rows jobs k) ≡ None
   unfolding first_checks
   passed_at zero passed k l = absurd (omega arith)
   passed_at (suc n) passed k l =
       let parts = none_parts (first_checks rows jobs n) (job_checks rows jobs n) passed in
       ⊎_elim (λ (m : k < n). passed_at n parts.0 k m)
-      (λ (m : n ≤ k). let last : n ≡ k = omega arith in subst (λ j. refusalOf (job_checks rows jobs j) ≡ None) last parts.1)
+      (λ (m : n ≤ k). let last : n ≡ k = omega arith in subst (λ j. refusal_of (job_checks rows jobs j) ≡ None) last parts.1)
       (cases_lt k n)
 
 -- What is known of the first n jobs once they passed: the last release, from when on each line may release again, and the largest deadline.
@@ -63,10 +63,10 @@ pub record Passed (rows : List Row) (jobs : List Job) (n last : ℕ) (free : Lis
   pub lines : (i r : ℕ) → near rows jobs i n r ≡ ltb r (get_or free i 0)
   pub reached : reach ≡ largest rows jobs n
   pub within : reach ≤ 32000
-  pub passed : refusalOf (first_checks rows jobs n) ≡ None
+  pub passed : refusal_of (first_checks rows jobs n) ≡ None
 
 -- three checks of which none fails
-three_pass : (a b c : Bool) (x y z : Refusal) → refusalOf (record { fails = a; refusal = x } ∷ record { fails = b; refusal = y } ∷ record { fails = c; refusal = z } ∷ []) ≡ None → (a ≡ false) × (b ≡ false) × (c ≡ false)
+three_pass : (a b c : Bool) (x y z : Refusal) → refusal_of (record { fails = a; refusal = x } ∷ record { fails = b; refusal = y } ∷ record { fails = c; refusal = z } ∷ []) ≡ None → (a ≡ false) × (b ≡ false) × (c ≡ false)
 three_pass true b c x y z e = absurd (grind arith)
 three_pass false true c x y z e = absurd (grind arith)
 three_pass false false true x y z e = absurd (grind arith)
@@ -79,7 +79,7 @@ record Fit (rows : List Row) (jobs : List Job) (k : ℕ) : Type 0 where
   far : near rows jobs (at jobs k).line k (at jobs k).release ≡ false
   due : (timed rows (at jobs k)).deadline ≤ 32000
 
-job_fit : (rows : List Row) (jobs : List Job) (k : ℕ) → refusalOf (job_checks rows jobs k) ≡ None → Fit rows jobs k
+job_fit : (rows : List Row) (jobs : List Job) (k : ℕ) → refusal_of (job_checks rows jobs k) ≡ None → Fit rows jobs k
 job_fit rows jobs k passes =
     let passed = three_pass (out_of_range rows (at jobs k)) (too_soon rows jobs k) (ltb 32000 (timed rows (at jobs k)).deadline) _ _ _ passes in
     let soon = or_parts (ltb (at jobs k).release (in_front jobs k)) (near rows jobs (at jobs k).line k (at jobs k).release) passed.1 in
@@ -108,7 +108,7 @@ module _ (rows : List Row) (jobs : List Job) where
         (ap (λ r. ltb (at jobs n).release r || ltb (at jobs n).release (get_or free (at jobs n).line 0)) state.front
         ∙ ap (λ b. ltb (at jobs n).release (in_front jobs n) || b) (sym (state.lines (at jobs n).line (at jobs n).release)))
 
-    module _ (passes : refusalOf (job_checks rows jobs n) ≡ None) (lined : (at jobs n).line < 8) where
+    module _ (passes : refusal_of (job_checks rows jobs n) ≡ None) (lined : (at jobs n).line < 8) where
       -- a line may release again a period after the job, and not earlier than before
       lines_more : (i r : ℕ) → near rows jobs i (suc n) r ≡ ltb r (get_or (set free (at jobs n).line ((at jobs n).release + (figures rows (at jobs n).line).period)) i 0)
       unfolding near
@@ -175,7 +175,7 @@ module _ (rows : List Row) (jobs : List Job) where
       (λ (m : n ≤ j). let last : n ≡ j = omega arith in let here = parts.1 in let own = ap (λ k. (at jobs k).line) last in let release = ap (λ k. (at jobs k).release) last in grind arith)
       (cases_lt j n)
 
-  module _ (lawful : AllLawful rows) (few : length rows ≤ 8) (passed : refusalOf (first_checks rows jobs (length jobs)) ≡ None) where
+  module _ (lawful : AllLawful rows) (few : length rows ≤ 8) (passed : refusal_of (first_checks rows jobs (length jobs)) ≡ None) where
     fit : (k : ℕ) → k < length jobs → Fit rows jobs k
     fit k there = job_fit rows jobs k (passed_at rows jobs (length jobs) passed k there)
 
@@ -215,23 +215,23 @@ module _ (rows : List Row) (jobs : List Job) where
 
 module _ (rows : List Row) (jobs : List Job) where
   -- a list that is taken has few jobs, and all passed
-  pub list_taken : refusalOf (list_checks rows jobs) ≡ None → (length jobs ≤ 2048) × (refusalOf (first_checks rows jobs (length jobs)) ≡ None)
+  pub list_taken : refusal_of (list_checks rows jobs) ≡ None → (length jobs ≤ 2048) × (refusal_of (first_checks rows jobs (length jobs)) ≡ None)
   list_taken taken = go (ltb 2048 (length jobs)) refl
     where
-      go : (b : Bool) → ltb 2048 (length jobs) ≡ b → (length jobs ≤ 2048) × (refusalOf (first_checks rows jobs (length jobs)) ≡ None)
+      go : (b : Bool) → ltb 2048 (length jobs) ≡ b → (length jobs ≤ 2048) × (refusal_of (first_checks rows jobs (length jobs)) ≡ None)
       go true many = absurd (grind arith)
       go false few = (ltb-false 2048 (length jobs) few, sym (cond-false (ltb 2048 (length jobs)) _ _ few) ∙ taken)
 
   -- a list of few jobs is refused as its jobs are
-  pub list_refused : length jobs ≤ 2048 → refusalOf (list_checks rows jobs) ≡ refusalOf (first_checks rows jobs (length jobs))
+  pub list_refused : length jobs ≤ 2048 → refusal_of (list_checks rows jobs) ≡ refusal_of (first_checks rows jobs (length jobs))
   list_refused few = cond-false (ltb 2048 (length jobs)) _ _ (le-ltb 2048 (length jobs) few)
 
-  module _ (room : ℕ) (taken : refusalOf (list_checks rows jobs) ≡ None) where
+  module _ (room : ℕ) (taken : refusal_of (list_checks rows jobs) ≡ None) where
     -- a slot list that is too short for a list that is taken, and one that is long enough
-    pub too_short : room < horizon rows jobs → refusalOf (run_checks rows jobs room) ≡ Some (record { reason = ListTooShort; layer = Run; place = horizon rows jobs })
+    pub too_short : room < horizon rows jobs → refusal_of (run_checks rows jobs room) ≡ Some (record { reason = ListTooShort; layer = Run; place = horizon rows jobs })
     too_short less =
         refusal_behind (list_checks rows jobs) _ taken ∙ cond-true (ltb room (horizon rows jobs)) _ _ (lt-ltb room (horizon rows jobs) less)
 
-    pub long_enough : horizon rows jobs ≤ room → refusalOf (run_checks rows jobs room) ≡ None
+    pub long_enough : horizon rows jobs ≤ room → refusal_of (run_checks rows jobs room) ≡ None
     long_enough reaches =
         refusal_behind (list_checks rows jobs) _ taken ∙ cond-false (ltb room (horizon rows jobs)) _ _ (le-ltb room (horizon rows jobs) reaches)

@@ -8,7 +8,7 @@ use Rattle.grammar.specs.Reading.{rows_through, watched_through, AllMade, GoodTo
 use Rattle.grammar.specs.Records.{Record, line, certificate, call_of, calls_of, spelled, spelled_all, opening, closing, sheet}
 use Rattle.grammar.specs.Supplies.{supply_of}
 use Rattle.lines.specs.declared.row.Row.{Row}
-use Rattle.refusal.specs.Answers.{refusalOf}
+use Rattle.refusal.specs.Answers.{refusal_of}
 use Rattle.refusal.specs.declared.Refusal.{Refusal}
 use Rattle.refusal.specs.declared.reason.Reason.TheVariants.{BytesAfterEnd}
 use Rattle.roster.specs.Working.{checks, rows_in, watched_in}
@@ -51,7 +51,7 @@ module _ (roster : Roster Named) (bytes : List ℕ) (at before : ℕ) (g : Going
     going_more = record {
       fields = g.fields;
       records = g.records ++ (took.r ∷ []);
-      good = subst (λ rest. GoodTo bytes g.fields (g.records ++ (took.r ∷ [])) rest) behind (good_push bytes g.fields g.records (drop at bytes) took.more took.r g.good took.rest_is (told (λ m rows watched. refusalOf (checks m rows watched (call_of took.r)) ≡ None) took.passes));
+      good = subst (λ rest. GoodTo bytes g.fields (g.records ++ (took.r ∷ [])) rest) behind (good_push bytes g.fields g.records (drop at bytes) took.more took.r g.good took.rest_is (told (λ m rows watched. refusal_of (checks m rows watched (call_of took.r)) ≡ None) took.passes));
       counted = omega (arith, g.counted, length_push g.records took.r);
       within = record_within;
       few = omega (arith, g.few, record_some);

@@ -6,7 +6,7 @@ use Rattle.grammar.specs.Records.{Record, call_of, spelled, opening}
 use Rattle.grammar.specs.Supplies.{supply_of, field_checks}
 use Rattle.grammar.specs.declared.fields.Fields.{Fields}
 use Rattle.lines.specs.declared.row.Row.{Row}
-use Rattle.refusal.specs.Answers.{refusalOf, Answered}
+use Rattle.refusal.specs.Answers.{refusal_of, Answered}
 use Rattle.refusal.specs.declared.Refusal.{Refusal}
 use Rattle.roster.specs.Working.{Works}
 use Rattle.roster.specs.declared.roster.Roster.{Roster}
@@ -28,7 +28,7 @@ module _ {A : Type 0} (before after : Roster Named) (rest more : List ℕ) (r : 
 -- the supply of a first record is named, or its fields are at fault
 pub opened_by : (bytes more : List ℕ) (fields given : Fields) → bytes ≡ opening fields ++ more → given ≡ fields → (r : Result Named Refusal) → Answered r (field_checks given) (λ n. named n ≡ supply_of given) → Opening bytes r
 opened_by bytes more fields given e same (Ok supply) h =
-    let g = subst (λ f. (refusalOf (field_checks f) ≡ None) × (named supply ≡ supply_of f)) same h in
+    let g = subst (λ f. (refusal_of (field_checks f) ≡ None) × (named supply ≡ supply_of f)) same h in
     record { fields = fields; more = more; bytes_are = e; supply_named = g.0; meaning_is = g.1 }
 opened_by bytes more fields given e same (Err why) h =
-    unlawful fields more why e (subst (λ f. refusalOf (field_checks f) ≡ Some why) same h)
+    unlawful fields more why e (subst (λ f. refusal_of (field_checks f) ≡ Some why) same h)

@@ -11,7 +11,7 @@ use Rattle.lines.specs.Of.{rows_of}
 use Rattle.lines.specs.declared.row.Row.{Row}
 use Rattle.lines.specs.declared.table.Lines.{Lines}
 use Rattle.refusal.proofs.Checks.{answered_alike, refusal_behind}
-use Rattle.refusal.specs.Answers.{refusalOf, Answered, left}
+use Rattle.refusal.specs.Answers.{refusal_of, Answered, left}
 use Rattle.refusal.specs.declared.Refusal.{Refusal}
 use Rattle.roster.specs.Lent.{fronted}
 use Rattle.sheet.proofs.Drafting.{rows_few}
@@ -30,7 +30,7 @@ same_fields f g rs ss e = (cc, cc)
 never_refused : (f : Fields) (rs : List Record) (why : Refusal) (number byte : ℕ) → ◌≡◌ {A = Outcome} (refused why number byte) (accepted f rs) → ⊥
 never_refused f rs why number byte e = let z : ◌≡◌ {A = ℕ} 0 1 = cc in omega arith
 
-module _ (lines : Lines) (fields : Fields) (named-one : refusalOf (field_checks fields) ≡ None) where
+module _ (lines : Lines) (fields : Fields) (named-one : refusal_of (field_checks fields) ≡ None) where
   abbrev rows : List Row
   rows = rows_of lines
 

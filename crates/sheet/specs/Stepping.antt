@@ -6,7 +6,7 @@ use Rattle.grammar.specs.Records.{Record, call_of, spelled, opening, closing}
 use Rattle.grammar.specs.Supplies.{supply_of, field_checks}
 use Rattle.grammar.specs.declared.fields.Fields.{Fields}
 use Rattle.lines.specs.declared.row.Row.{Row}
-use Rattle.refusal.specs.Answers.{refusalOf}
+use Rattle.refusal.specs.Answers.{refusal_of}
 use Rattle.refusal.specs.declared.Refusal.{Refusal}
 use Rattle.roster.specs.Working.{checks, rows_in, watched_in}
 use Rattle.roster.specs.declared.roster.Roster.{Roster}
@@ -21,7 +21,7 @@ pub record Opens (bytes : List ℕ) (supply : Named) : Type 0 where
   pub fields : Fields
   pub more : List ℕ
   pub bytes_are : bytes ≡ opening fields ++ more
-  pub supply_named : refusalOf (field_checks fields) ≡ None
+  pub supply_named : refusal_of (field_checks fields) ≡ None
   pub meaning_is : named supply ≡ supply_of fields
 
 abbrev pub Opening : List ℕ → Result Named Refusal → Type 0
@@ -34,7 +34,7 @@ pub record Takes (before after : Roster Named) (rest : List ℕ) (size : ℕ) : 
   pub more : List ℕ
   pub rest_is : rest ≡ spelled r ++ more
   pub size_is : size ≡ length (spelled r)
-  pub passes : refusalOf (checks (named before.supply) (rows_in before) (watched_in before) (call_of r)) ≡ None
+  pub passes : refusal_of (checks (named before.supply) (rows_in before) (watched_in before) (call_of r)) ≡ None
   pub lines : rows_in after ≡ rows_after (rows_in before) (call_of r)
   pub watched : watched_in after ≡ watched_after (rows_in before) (watched_in before) (call_of r)
   pub supply : after.supply ≡ before.supply

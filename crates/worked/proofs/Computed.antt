@@ -10,7 +10,7 @@ use Rattle.edf.specs.Schedule.{Schedule, service}
 use Rattle.lines.specs.Changes.{without}
 use Rattle.lines.specs.Demand.{demand}
 use Rattle.lines.specs.Rest.{first, every, some, product, deadlines, first_rest, full_list}
-use Rattle.refusal.specs.Answers.{refusalOf}
+use Rattle.refusal.specs.Answers.{refusal_of}
 use Rattle.refusal.specs.declared.layer.Layer.TheVariants.{Roster}
 use Rattle.refusal.specs.declared.reason.Reason.TheVariants.{SupplyNotCovered}
 use Rattle.roster.proofs.Passing.{passes_made}
@@ -60,7 +60,7 @@ cuts_25 : (a b : ℕ) → Passes whole (close_lines a b) close_watched cut_25
 unfolding listed each weighed
 cuts_25 a b = refl
 
-refuses_25 : (a b : ℕ) → refusalOf (checks whole (close_lines a b) close_watched cut_25_badly) ≡ Some (record { reason = SupplyNotCovered; layer = Roster; place = 0 })
+refuses_25 : (a b : ℕ) → refusal_of (checks whole (close_lines a b) close_watched cut_25_badly) ≡ Some (record { reason = SupplyNotCovered; layer = Roster; place = 0 })
 unfolding listed each weighed
 refuses_25 a b = refl
 

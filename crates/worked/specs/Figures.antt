@@ -9,7 +9,7 @@ use Rattle.lines.specs.Changes.{without}
 use Rattle.lines.specs.Demand.{count}
 use Rattle.lines.specs.Rest.{first_rest, full_list}
 use Rattle.lines.specs.declared.row.Row.{Row}
-use Rattle.refusal.specs.Answers.{refusalOf}
+use Rattle.refusal.specs.Answers.{refusal_of}
 use Rattle.refusal.specs.Numbers.{number_of}
 use Rattle.refusal.specs.declared.layer.Layer.TheVariants.{Roster}
 use Rattle.refusal.specs.declared.reason.Reason.TheVariants.{SupplyNotCovered}
@@ -29,7 +29,7 @@ pub record Judged (m : Meaning) (calls : List Call) (rows : List Row) (watched :
 
 -- A call finds none of its checks failing.
 abbrev pub Passes : Meaning → List Row → List ℕ → Call → Type 0
-Passes m rows watched call = refusalOf (checks m rows watched call) ≡ None
+Passes m rows watched call = refusal_of (checks m rows watched call) ≡ None
 
 pub record Figures : Type 0 where
   -- 7/5, 11/7 and 13/10, whatever their costs, rest first at 62.
@@ -61,7 +61,7 @@ pub record Figures : Type 0 where
   -- There 25 is cut with divisor 2 by 38 and 12, each of weight 1.
   pub cuts_25 : (a b : ℕ) → Passes whole (close_lines a b) close_watched cut_25
   -- With divisor 1 by 12 and 14 it is refused 11, by the roster, at place 0.
-  pub refuses_25 : (a b : ℕ) → refusalOf (checks whole (close_lines a b) close_watched cut_25_badly) ≡ Some (record { reason = SupplyNotCovered; layer = Roster; place = 0 })
+  pub refuses_25 : (a b : ℕ) → refusal_of (checks whole (close_lines a b) close_watched cut_25_badly) ≡ Some (record { reason = SupplyNotCovered; layer = Roster; place = 0 })
   pub refused_11 : number_of SupplyNotCovered ≡ 11
   -- With costs 2 and 10 and 25 cut they are overloaded at 25.
   pub close_overloaded : Judged whole (enrols (close_lines 2 10) ++ (cut_25 ∷ [])) (close_lines 2 10) (6 ∷ 12 ∷ 14 ∷ 22 ∷ 30 ∷ 38 ∷ []) (Some 25)

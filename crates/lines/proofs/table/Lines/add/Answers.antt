@@ -7,7 +7,7 @@ use Rattle.lines.specs.Demand.{Lawful, AllLawful}
 use Rattle.lines.specs.Of.{rows_of, watched}
 use Rattle.lines.specs.Rest.{full_list}
 use Rattle.refusal.proofs.Checks.{answered_alike}
-use Rattle.refusal.specs.Answers.{refusalOf}
+use Rattle.refusal.specs.Answers.{refusal_of}
 use Rattle.std.proofs.lemmas.List.{take_more_set, length-set, length-take}
 
 pub checked-requires : goal.checked-requires
@@ -28,5 +28,5 @@ returns c =
     let read = take_more_set self.rows self.len c.row.result (omega (arith, self.room, c.if-self-ge8.false)) in
     let pushed : table ≡ rows ++ (row ∷ []) = read ∙ ap (λ r. rows ++ (r ∷ [])) (c.row.ensures ∙ made.1) in
     let few : length rows < 8 = omega (arith, length-take self.len self.rows, c.if-self-ge8.false) in
-    let same : refusalOf (set_checks table) ≡ refusalOf (add_checks rows row) = ap (λ rs. refusalOf (set_checks rs)) pushed ∙ sym (add_refusal rows row few made.0) in
+    let same : refusal_of (set_checks table) ≡ refusal_of (add_checks rows row) = ap (λ rs. refusal_of (set_checks rs)) pushed ∙ sym (add_refusal rows row few made.0) in
     answered_alike c.checked.result (set_checks table) (add_checks rows row) _ _ same (λ p h. (h.0 ∙ pushed, h.1 ∙ ap full_list (sym h.0))) c.checked.ensures

@@ -1,7 +1,7 @@
 use Rattle.std.proofs.Common.{◌≡◌, ◌<◌, ◌≤◌, true, false, ltb, length, Some, None, sym, refl, ap, ◌∙◌, arith}
 use Rattle.analysis.specs.Legal.{witness}
 use Rattle.refusal.proofs.Checks.{refused_at}
-use Rattle.refusal.specs.Answers.{check_at, refusalOf}
+use Rattle.refusal.specs.Answers.{check_at, refusal_of}
 use Rattle.refusal.specs.declared.reason.Reason.TheVariants.{ListTooShort}
 use Rattle.roster.proofs.Witnessed.{of_verdict, front_unmet}
 use Rattle.roster.proofs.roster.Roster.witness.Goals as goal
@@ -16,7 +16,7 @@ returns-in_default g c =
     let rows = rows_in self in
     let room = length c.args.list.now in
     record {
-      answered = of_verdict (g.S.Supply.meaning self.supply) rows (watched_in self) (λ v. refusalOf (witness_checks rows v room) ≡ Some c.by.result) None c.in_default.ensures.says (ap Some (sym c.by.ensures));
+      answered = of_verdict (g.S.Supply.meaning self.supply) rows (watched_in self) (λ v. refusal_of (witness_checks rows v room) ≡ Some c.by.result) None c.in_default.ensures.says (ap Some (sym c.by.ensures));
       list_holds_witness = λ v h. refl;
       refusal_leaves_list = refl;
       no_schedule_meets_it = λ calls reached. tt;
@@ -33,7 +33,7 @@ returns-then-list-jobs g c =
     let short : ltb room needed ≡ true = let l : room < needed = omega (arith, long, c.if-list-jobs.true) in grind arith in
     let refused = refused_at c.at.result c.by-then-list-jobs.result ListTooShort c.number_released-number.result c.by-then-list-jobs.ensures c.at.ensures in
     record {
-      answered = of_verdict (g.S.Supply.meaning self.supply) rows (watched_in self) (λ v. refusalOf (witness_checks rows v room) ≡ Some c.at.result) (Some t) c.in-Some.ensures.says (cond-true (ltb room needed) _ _ short ∙ ap (λ place. Some (check_at place true ListTooShort).refusal) (sym long) ∙ ap Some refused);
+      answered = of_verdict (g.S.Supply.meaning self.supply) rows (watched_in self) (λ v. refusal_of (witness_checks rows v room) ≡ Some c.at.result) (Some t) c.in-Some.ensures.says (cond-true (ltb room needed) _ _ short ∙ ap (λ place. Some (check_at place true ListTooShort).refusal) (sym long) ∙ ap Some refused);
       list_holds_witness = λ v h. refl;
       refusal_leaves_list = refl;
       no_schedule_meets_it = λ calls reached. tt;
@@ -53,9 +53,9 @@ returns g c =
     let wrote = c.write_released.ensures in
     let room : length (witness rows t) ≤ length list = omega (arith, long, c.if-list-jobs.false) in
     let fits : ltb (length list) (length (witness rows t)) ≡ false = grind arith in
-    let passes : refusalOf (witness_checks rows (Some t) (length list)) ≡ None = grind arith in
+    let passes : refusal_of (witness_checks rows (Some t) (length list)) ≡ None = grind arith in
     record {
-      answered = of_verdict m rows W (λ v. (refusalOf (witness_checks rows v (length list)) ≡ None) × ((c.least-phase.result.1 ≡ witness_phase m v) × (c.number_released-number.result ≡ length (witness_jobs rows v)))) (Some t) says (passes, (phase, long));
+      answered = of_verdict m rows W (λ v. (refusal_of (witness_checks rows v (length list)) ≡ None) × ((c.least-phase.result.1 ≡ witness_phase m v) × (c.number_released-number.result ≡ length (witness_jobs rows v)))) (Some t) says (passes, (phase, long));
       list_holds_witness = of_verdict m rows W (λ v. c.write_released.new.list ≡ fronted (witness_jobs rows v) list) (Some t) says wrote;
       refusal_leaves_list = tt;
       no_schedule_meets_it = λ calls reached. front_unmet m rows t (c.in-Some.ensures.exact calls reached) c.write_released.new.list list c.number_released-number.result c.least-phase.result.1 wrote long phase;
