@@ -9,7 +9,7 @@ pub returns-in_default : goal.returns-in_default
 returns-in_default c =
     let xs = c.args.fields.now in
     let few : length xs < 11 = omega (arith, ltb-true, ltb-false) in
-    subst (λ why. FaultFirst (83 ∷ 85 ∷ xs) why) (sym c.by_sheet.ensures) (cut_short (short_opening xs (λ i. (c.type-inv.fields i).fits) few))
+    subst (λ why. FaultFirst (83 ∷ 85 ∷ xs) why) (sym c.by_sheet.ensures) (cut_short (short_opening xs (λ i. (c.type_inv.fields i).fits) few))
 
 pub returns : goal.returns
 returns c =
@@ -17,4 +17,4 @@ returns c =
     let enough : 11 ≤ length xs = omega (arith, ltb-true, ltb-false) in
     let word : c.from_be_bytes.result ≡ (fields_in xs).word = omega (arith, c.from_be_bytes.ensures) in
     let with-word : ℕ → Fields = λ w. record { length = get_or xs 0 0; word = w; share = get_or xs 9 0; of = get_or xs 10 0 } in
-    opened_by _ (drop 11 xs) (fields_in xs) (with-word c.from_be_bytes.result) (spells_opening xs (λ i. (c.type-inv.fields i).fits) enough) (ap with-word word) c.supply_of.result c.supply_of.ensures
+    opened_by _ (drop 11 xs) (fields_in xs) (with-word c.from_be_bytes.result) (spells_opening xs (λ i. (c.type_inv.fields i).fits) enough) (ap with-word word) c.supply_of.result c.supply_of.ensures
