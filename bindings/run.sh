@@ -4,10 +4,10 @@
 set -eu
 cd "$(dirname "$0")/.."
 out=target/bindings
-lib=target/staticlib
+lib=crates/embed/out
 mkdir -p "$out"
 
-rt staticlib embed
+(cd crates/embed && rt lib)
 
 for program in example bad_input; do
     cc -std=c11 -Wall -Wextra -Werror -O2 -Iinclude -o "$out/$program" "bindings/c/$program.c" "$lib/libembed.a"

@@ -3,7 +3,7 @@
 # lists: compare.sh [seed] [number of sheets].
 set -eu
 cd "$(dirname "$0")/.."
-rt staticlib embed
-ZUCCHINICOVE_LIB="$PWD/target/staticlib/libembed.a" cargo build --offline --quiet --release \
+(cd crates/embed && rt lib)
+ZUCCHINICOVE_LIB="$PWD/crates/embed/out/libembed.a" cargo build --offline --quiet --release \
     --manifest-path second/Cargo.toml --target-dir target/second
 exec target/second/release/compare "${1:-20261118}" "${2:-1000000}" target/second/differ

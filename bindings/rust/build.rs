@@ -1,4 +1,4 @@
-//! Links the static library that `rt staticlib embed` writes; ZUCCHINICOVE_LIB names another folder that holds it.
+//! Links the static library that `rt lib` writes in crates/embed; ZUCCHINICOVE_LIB names another folder that holds it.
 use std::env;
 use std::path::PathBuf;
 
@@ -6,7 +6,7 @@ fn main() {
     println!("cargo:rerun-if-env-changed=ZUCCHINICOVE_LIB");
     let folder = match env::var_os("ZUCCHINICOVE_LIB") {
         Some(folder) => PathBuf::from(folder),
-        None => PathBuf::from(env!("CARGO_MANIFEST_DIR")).join("../../target/staticlib"),
+        None => PathBuf::from(env!("CARGO_MANIFEST_DIR")).join("../../crates/embed/out"),
     };
     println!("cargo:rustc-link-search=native={}", folder.display());
     println!("cargo:rustc-link-lib=static=embed");

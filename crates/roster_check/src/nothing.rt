@@ -62,7 +62,7 @@ pub(crate) fn compared() -> Tally {
     for cut in &CUTS {
         compare_cut(&mut tally, &mut roster, cut);
     }
-    tally.note(roster.watched().as_slice() == &[6, 12, 14, 22, 38]);
+    tally.note(roster.watched().as_slice() == [6, 12, 14, 22, 38].as_slice());
     tally.note(roster.verdict() == Some(6));
     let mut slots = [0; 12];
     let answer = roster.run(7, &JOBS, &mut slots);
