@@ -1,9 +1,7 @@
 -- Demand of lawful lines: none at 0, the same between deadlines, and at most the sum of its parts at a rest point.
-use Rattle.std.proofs.Common.{◌≡◌, ℕ, zero, suc, ◌+◌, ◌-◌, ◌*◌, ◌<◌, ◌≤◌, Bool, true, false, ◌&&◌, ◌||◌, List, [], ◌∷◌, length, get_or, sym, refl, ap, ◌∙◌, arith}
+use Rattle.std.proofs.Common.{◌≡◌, ℕ, suc, ◌+◌, ◌-◌, ◌≤◌, true, false, List, [], ◌∷◌, refl, ap, ◌∙◌, arith}
 use Rattle.lines.proofs.Counts.{line_laws, counted_step}
-use Rattle.lines.proofs.Every.{every_at}
-use Rattle.lines.specs.Demand.{Lawful, AllLawful, no_row, count, work, demand}
-use Rattle.lines.specs.Laws.{LineLaws}
+use Rattle.lines.specs.Demand.{Lawful, AllLawful, count, work, demand}
 use Rattle.lines.specs.Rest.{every, some, resting, due}
 use Rattle.lines.specs.declared.row.Row.{Row}
 

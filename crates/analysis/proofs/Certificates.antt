@@ -1,5 +1,5 @@
 -- A certificate keeps a list exact: what it cites speaks for the deadline that leaves.
-use Rattle.std.proofs.Common.{◌≡◌, ℕ, zero, suc, ◌+◌, ◌*◌, ◌<◌, ◌≤◌, Bool, true, false, cond, not, eqb, List, [], ◌∷◌, length, get_or, filter, sym, refl, ap, ◌∙◌, subst, ⊎_elim, mul_assoc, mul-le-mul_left, mul-add, arith}
+use Rattle.std.proofs.Common.{◌≡◌, ℕ, zero, suc, ◌+◌, ◌*◌, ◌<◌, ◌≤◌, Bool, true, false, cond, not, eqb, List, [], ◌∷◌, length, get_or, filter, sym, refl, ap, ◌∙◌, subst, ⊎_elim, mul-le-mul_left, mul-add, arith}
 use Rattle.lines.proofs.Costs.{alike_length, count_alike}
 use Rattle.analysis.specs.Watching.{Within, Exact, Cite, weighed, Certifies}
 use Rattle.lines.proofs.Counts.{line_laws}

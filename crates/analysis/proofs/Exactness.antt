@@ -10,20 +10,18 @@ use Rattle.analysis.specs.Watching.{Within, Exact}
 use Rattle.edf.proofs.Construction.{existence}
 use Rattle.edf.proofs.Crowding.{crowd}
 use Rattle.edf.proofs.Meeting.{sufficiency}
-use Rattle.edf.proofs.Optimal.{feasibility, optimality}
+use Rattle.edf.proofs.Optimal.{feasibility}
 use Rattle.edf.proofs.Run.{run_exact, run_optimal}
 use Rattle.edf.specs.Jobs.{job, DueBy}
-use Rattle.edf.specs.Load.{load, Room, RoomTo}
+use Rattle.edf.specs.Load.{RoomTo}
 use Rattle.edf.specs.Run.{Outcome, met, missed, Runs}
 use Rattle.edf.specs.Schedule.{Schedule, Meets}
 use Rattle.lines.proofs.Listed.{deadlines_only, deadlines_bounded}
-use Rattle.lines.specs.Demand.{AllLawful, demand}
-use Rattle.lines.specs.Rest.{some, due, deadlines}
+use Rattle.lines.specs.Demand.{AllLawful}
 use Rattle.lines.specs.declared.row.Row.{Row}
 use Rattle.run.specs.Timed.{timed, timed_list}
 use Rattle.run.specs.declared.job.Job.{Job}
 use Rattle.std.proofs.lemmas.List.{length-map}
-use Rattle.std.specs.List.{ContainsAt as Has}
 use Rattle.supply.specs.Least.{phase_counts}
 use Rattle.supply.specs.Meaning.{Meaning, Lawful}
 

@@ -3,11 +3,10 @@ use Rattle.std.proofs.Common.{◌≡◌, ℕ, zero, suc, ◌*◌, ◌<◌, ◌�
 use Rattle.analysis.proofs.Reaching.{reached_exact}
 use Rattle.analysis.proofs.Witness.{witness_legal}
 use Rattle.analysis.specs.Example.{line, two_lines, two_enrols, close_lines, cites, Example}
-use Rattle.analysis.specs.History.{Call, enrol, Reached, opened, made}
-use Rattle.analysis.specs.Legal.{Legal, witness}
+use Rattle.analysis.specs.History.{enrol, Reached, opened, made}
 use Rattle.analysis.specs.Verdict.{Verdict}
-use Rattle.analysis.specs.Watching.{Within, Exact, Cite, weighed, Certifies}
-use Rattle.lines.specs.Demand.{Lawful, AllLawful, no_row, count, demand}
+use Rattle.analysis.specs.Watching.{Within, weighed}
+use Rattle.lines.specs.Demand.{AllLawful, no_row, count, demand}
 use Rattle.lines.specs.Rest.{first, every, some, product, deadlines, full_list}
 use Rattle.std.proofs.ByRecursion.{all-has}
 use Rattle.std.specs.List.{ContainsAt as Has, AllByRecursion as All}

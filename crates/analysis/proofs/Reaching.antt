@@ -1,24 +1,19 @@
 -- After any calls the lines are lawful and follow from the calls' arguments, and the watch list is exact.
-use Rattle.std.proofs.Common.{◌≡◌, ℕ, zero, suc, ◌+◌, ◌<◌, ◌≤◌, Bool, true, false, cond, not, ◌&&◌, ltb, ◌⊎◌, List, [], ◌∷◌, ◌++◌, map, length, get_or, take, drop, set, is_some, sym, refl, ap, ◌∙◌, subst, inl, inr, ⊎_elim, arith}
+use Rattle.std.proofs.Common.{◌≡◌, ℕ, Bool, true, false, List, [], ◌∷◌, ◌++◌, sym, refl, ap, ◌∙◌, arith}
 use Rattle.analysis.proofs.Certificates.{cut_exact}
 use Rattle.analysis.proofs.Exactness.{exact_by}
 use Rattle.analysis.proofs.Watching.{full_list_exact}
-use Rattle.analysis.specs.History.{Call, enrol, strike, recost, cut, Accepted, rows_after, watched_after, taken, Made, Reached, opened, made, refused, step, follow}
+use Rattle.analysis.specs.History.{Call, enrol, strike, recost, cut, rows_after, watched_after, taken, Made, Reached, opened, made, refused, step, follow}
 use Rattle.analysis.specs.Theorems.{ReachedExact, LinesFollow, VerdictExact}
-use Rattle.analysis.specs.Watching.{Exact, Within}
+use Rattle.analysis.specs.Watching.{Exact}
 use Rattle.lines.proofs.Costs.{alike_recosted, lawful_recosted}
 use Rattle.lines.proofs.Lawful.{lawful_push}
 use Rattle.lines.proofs.Removing.{lawful_removed}
-use Rattle.lines.specs.Calls.{line_checks, add_checks, outside}
 use Rattle.lines.specs.Demand.{AllLawful, no_row}
 use Rattle.lines.specs.Demand as lines
-use Rattle.lines.specs.Rest.{first, every, some, product, deadlines, full_list}
+use Rattle.lines.specs.Rest.{first, every, some, product, deadlines}
 use Rattle.lines.specs.declared.row.Row.{Row}
-use Rattle.refusal.specs.Answers.{refusal_of}
 use Rattle.std.specs.List.{remove}
-use Rattle.std.proofs.lemmas.List.Edits.{length-remove, get_or-remove_below, get_or-remove_above}
-use Rattle.std.proofs.lemmas.List.{get_or-set_same, get_or-set_other, length-set, map-set, set-get_or}
-use Rattle.std.proofs.lemmas.Bool.{cases_lt, cases_eq, cases_Bool}
 use Rattle.supply.specs.Meaning.{Meaning, Lawful}
 
 not_true_false : (b : Bool) → (b ≡ true → ⊥) → b ≡ false

@@ -1,17 +1,16 @@
 -- The full list is exact, and a certificate keeps a list exact.
-use Rattle.std.proofs.Common.{◌≡◌, ℕ, zero, suc, ◌+◌, ◌-◌, ◌*◌, ◌<◌, ◌≤◌, Bool, true, false, List, sym, refl, ap, subst, ⊎_elim, add-one, arith}
+use Rattle.std.proofs.Common.{◌≡◌, ℕ, zero, suc, ◌+◌, ◌-◌, ◌<◌, ◌≤◌, Bool, true, false, List, refl, ap, subst, ⊎_elim, add-one, arith}
 use Rattle.analysis.proofs.Asking.{demand_none, demand_still, demand_splits}
 use Rattle.lines.proofs.Costs.{full_list_alike}
-use Rattle.analysis.specs.Watching.{Within, Exact, Cite, weighed, Certifies}
+use Rattle.analysis.specs.Watching.{Within, Exact}
 use Rattle.lines.proofs.Listed.{deadlines_hold}
 use Rattle.lines.proofs.Rests.{first_rest_positive, first_rest_rests}
-use Rattle.lines.specs.Changes.{Alike, without}
-use Rattle.lines.specs.Demand.{AllLawful, demand}
+use Rattle.lines.specs.Demand.{AllLawful}
 use Rattle.lines.specs.Rest.{every, some, resting, due, first_rest, deadlines, full_list}
 use Rattle.lines.specs.declared.row.Row.{Row}
 use Rattle.std.proofs.lemmas.Bool.{cases_lt}
 use Rattle.std.specs.List.{ContainsAt as Has}
-use Rattle.supply.specs.Least.{least_superadditive, least_monotone, least_none}
+use Rattle.supply.specs.Least.{least_superadditive, least_monotone}
 use Rattle.supply.specs.Meaning.{Meaning, Lawful}
 
 module _ (m : Meaning) (law : Lawful m) (rows : List Row) (ok : AllLawful rows) where

@@ -1,18 +1,17 @@
 -- The window bound: in a window of time a legal list brings no more work than demand at its length.
-use Rattle.std.proofs.Common.{◌≡◌, ℕ, zero, suc, ◌+◌, ◌-◌, ◌*◌, ◌<◌, ◌≤◌, Bool, true, false, cond, ◌&&◌, eqb, ltb, leb, ◌⊎◌, List, [], ◌∷◌, length, get_or, sym, refl, ap, ◌∙◌, inl, inr, ⊎_elim, mul-le-mul_right, add-mul, arith}
-use Rattle.analysis.specs.Legal.{row_of, Allowed, Apart, no_job, Legal}
-use Rattle.edf.proofs.DoubleCount.{inside, charge, load_places}
+use Rattle.std.proofs.Common.{◌≡◌, ℕ, zero, suc, ◌+◌, ◌-◌, ◌*◌, ◌<◌, ◌≤◌, Bool, true, false, cond, ◌&&◌, eqb, ltb, leb, ◌⊎◌, List, [], ◌∷◌, length, get_or, sym, refl, ap, ◌∙◌, inl, inr, ⊎_elim, add-mul, arith}
+use Rattle.analysis.specs.Legal.{row_of, no_job, Legal}
+use Rattle.edf.proofs.DoubleCount.{charge, load_places}
 use Rattle.edf.proofs.Sums.{sum, sum_le, sum_same, sum_none, sum_add, sum_first}
 use Rattle.edf.specs.Jobs.{job}
 use Rattle.edf.specs.Load.{load}
 use Rattle.lines.proofs.Counts.{line_laws, counted_below}
-use Rattle.lines.specs.Demand.{Lawful, AllLawful, no_row, counted, count, work, demand}
-use Rattle.lines.specs.Laws.{LineLaws}
+use Rattle.lines.specs.Demand.{AllLawful, no_row, count, work, demand}
 use Rattle.lines.specs.declared.row.Row.{Row}
 use Rattle.run.specs.Timed.{timed, timed_list}
 use Rattle.run.specs.declared.job.Job.{Job}
 use Rattle.std.proofs.lemmas.List.{length-map, get_or-map}
-use Rattle.std.proofs.lemmas.Bool.{cases_lt, cases_eq, cases_Bool}
+use Rattle.std.proofs.lemmas.Bool.{cases_lt, cases_eq}
 
 -- at most one term counts, where any two that count are the same
 sum_one : (f : ℕ → ℕ) (n : ℕ) → ((k : ℕ) → k < n → f k ≤ 1) → ((j k : ℕ) → j < k → k < n → 1 ≤ f j → 1 ≤ f k → ⊥) → sum f n ≤ 1

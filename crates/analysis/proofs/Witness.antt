@@ -1,5 +1,5 @@
 -- The witness list: it is legal, and its load up to t is the demand at t.
-use Rattle.std.proofs.Common.{◌≡◌, ℕ, zero, suc, ◌+◌, ◌-◌, ◌*◌, ◌%◌, ◌<◌, ◌≤◌, min, Bool, true, false, cond, ◌&&◌, eqb, leb, ◌⊎◌, List, [], ◌∷◌, ◌++◌, map, length, get_or, sum_by, sym, refl, ap, ◌∙◌, subst, inl, inr, ⊎_elim, add-zero, add-mul, zero-add, arith}
+use Rattle.std.proofs.Common.{◌≡◌, ℕ, zero, suc, ◌+◌, ◌-◌, ◌%◌, ◌<◌, ◌≤◌, min, Bool, true, false, cond, ◌&&◌, eqb, leb, ◌⊎◌, List, [], ◌∷◌, ◌++◌, length, get_or, sum_by, sym, refl, ap, ◌∙◌, inl, inr, add-zero, add-mul, zero-add, arith}
 use Rattle.analysis.specs.Legal.{row_of, Allowed, Apart, no_job, Legal, released_at, released_before, witness}
 use Rattle.edf.specs.Jobs as edf
 use Rattle.edf.specs.Load.{load}
@@ -12,7 +12,7 @@ use Rattle.run.specs.Timed.{timed, timed_list}
 use Rattle.run.specs.declared.job.Job.{Job}
 use Rattle.std.proofs.ByRecursion.{All-append, All-get_or, All-weaker}
 use Rattle.std.proofs.lemmas.List.Sums.{sum_by-cons, sum_by-append}
-use Rattle.std.proofs.lemmas.Bool.{cases_lt, cases_eq, cases_Bool}
+use Rattle.std.proofs.lemmas.Bool.{cases_lt, cases_Bool}
 use Rattle.std.specs.List.{AllByRecursion as All}
 
 -- any two of a list, the earlier first

@@ -1,6 +1,6 @@
 -- One case of everything that the theorems speak of: the lines 8/5/2 and 15/9/4 after two enrols on the whole processor, and the
 -- certificate by which 25 leaves the list of 8/6 and 13/12. Assumes nothing.
-use Rattle.std.specs.Prelude.{◌≡◌, ℕ, List, [], ◌∷◌, None}
+use Rattle.std.specs.Prelude.{ℕ, List, [], ◌∷◌, None}
 use Rattle.analysis.specs.History.{Call, enrol, Reached}
 use Rattle.analysis.specs.Legal.{Legal, witness}
 use Rattle.analysis.specs.Verdict.{Verdict}

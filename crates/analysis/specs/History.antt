@@ -1,5 +1,5 @@
 -- Histories: what the lines and the watch list of a roster are after any calls from its opening. Assumes nothing.
-use Rattle.std.specs.Prelude.{◌≡◌, ℕ, ◌<◌, ◌≤◌, Bool, true, false, cond, not, ◌&&◌, List, [], ◌∷◌, ◌++◌, length, set, is_some, nat_lt}
+use Rattle.std.specs.Prelude.{◌≡◌, ℕ, ◌≤◌, Bool, true, cond, not, ◌&&◌, List, [], ◌∷◌, ◌++◌, length, is_some, nat_lt}
 use Rattle.analysis.specs.Watching.{Cite, Certifies}
 use Rattle.lines.specs.Calls.{add_checks, outside}
 use Rattle.lines.specs.Changes.{with_cost, without}

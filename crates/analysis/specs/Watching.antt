@@ -1,5 +1,5 @@
 -- When a list of watched deadlines says enough, and when one may leave it. Assumes nothing.
-use Rattle.std.specs.Prelude.{◌≡◌, ℕ, ◌+◌, ◌*◌, ◌<◌, ◌≤◌, List, [], ◌∷◌, length, ◌≢◌, slice_index_or}
+use Rattle.std.specs.Prelude.{ℕ, ◌+◌, ◌*◌, ◌<◌, ◌≤◌, List, [], ◌∷◌, length, ◌≢◌, slice_index_or}
 use Rattle.lines.specs.Changes.{Alike}
 use Rattle.lines.specs.Demand.{AllLawful, no_row, count, demand}
 use Rattle.lines.specs.declared.row.Row.{Row}

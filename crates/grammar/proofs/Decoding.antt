@@ -1,6 +1,5 @@
 -- Bytes spell numbers and records: those that are long enough spell one, and those that are not can be filled up to one.
-use Rattle.std.proofs.Common.{◌≡◌, ℕ, zero, suc, ◌+◌, ◌-◌, ◌*◌, ◌/◌, ◌%◌, ◌<◌, ◌≤◌, ◌⊎◌, List, [], ◌∷◌, ◌++◌, map, length, get_or, take, drop, replicate, sym, refl, ap, ◌∙◌, subst, inl, inr, ⊎_elim, div-add-mod', arith, drop-cons}
-use Rattle.analysis.specs.Watching.{Cite}
+use Rattle.std.proofs.Common.{◌≡◌, ℕ, zero, suc, ◌+◌, ◌-◌, ◌*◌, ◌/◌, ◌%◌, ◌<◌, ◌≤◌, List, [], ◌∷◌, ◌++◌, map, length, get_or, take, drop, replicate, sym, refl, ap, ◌∙◌, subst, inl, inr, ⊎_elim, arith, drop-cons}
 use Rattle.grammar.specs.Bytes.{wide, two, eight}
 use Rattle.grammar.specs.Reading.{First, Later, CutShort, Misplaced}
 use Rattle.grammar.specs.Records.{Record, line, certificate, spelled, spelled_cites, opening, closing}

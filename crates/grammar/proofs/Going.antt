@@ -1,5 +1,5 @@
 -- A sheet that is good up to a record whose call is made is good up to what is behind it.
-use Rattle.std.proofs.Common.{◌≡◌, ℕ, suc, List, [], ◌∷◌, ◌++◌, None, sym, refl, ap, ◌∙◌, subst}
+use Rattle.std.proofs.Common.{◌≡◌, ℕ, List, [], ◌∷◌, ◌++◌, None, sym, refl, ap, ◌∙◌, subst}
 use Rattle.analysis.specs.History.{Call, rows_after, watched_after}
 use Rattle.grammar.specs.Reading.{rows_through, watched_through, AllMade, GoodTo}
 use Rattle.grammar.specs.Records.{Record, call_of, calls_of, spelled, spelled_all, opening}

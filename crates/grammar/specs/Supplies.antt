@@ -1,5 +1,5 @@
 -- The supply that the first record of a sheet names, and when it names none. Assumes nothing.
-use Rattle.std.specs.Prelude.{ℕ, ◌*◌, ◌^◌, Bool, cond, not, ◌&&◌, List, [], ◌∷◌, ◌==◌, nat_le, nat_lt}
+use Rattle.std.specs.Prelude.{◌*◌, ◌^◌, Bool, cond, not, ◌&&◌, List, [], ◌∷◌, ◌==◌, nat_le, nat_lt}
 use Rattle.grammar.specs.declared.fields.Fields.{Fields}
 use Rattle.refusal.specs.Answers.{Check}
 use Rattle.refusal.specs.declared.layer.Layer.TheVariants.{Supply}

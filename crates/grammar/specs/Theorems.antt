@@ -1,7 +1,7 @@
 -- The theorems of the sheet's grammar. Assumes nothing.
 use Rattle.std.specs.Prelude.{◌≡◌, ℕ, ◌≤◌, List, [], map, length, None}
 use Rattle.analysis.specs.History.{Reached}
-use Rattle.grammar.specs.Reading.{rows_through, watched_through, AllMade, Accepted, Outcome, Reading, accepted}
+use Rattle.grammar.specs.Reading.{rows_through, watched_through, Accepted, Outcome, Reading}
 use Rattle.grammar.specs.Records.{Record, line, calls_of, sheet}
 use Rattle.grammar.specs.Supplies.{supply_of, field_checks}
 use Rattle.grammar.specs.declared.fields.Fields.{Fields}

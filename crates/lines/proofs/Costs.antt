@@ -1,5 +1,5 @@
 -- Rest points, deadlines and counts do not depend on costs.
-use Rattle.std.proofs.Common.{◌≡◌, ℕ, zero, suc, ◌*◌, ◌<◌, ◌≤◌, Bool, true, false, cond, ◌&&◌, ◌||◌, List, [], ◌∷◌, ◌++◌, map, length, get_or, take, set, sym, refl, ap, ◌∙◌, ap₂, ⊎_elim, arith}
+use Rattle.std.proofs.Common.{◌≡◌, ℕ, zero, suc, ◌*◌, ◌<◌, ◌≤◌, Bool, cond, ◌&&◌, ◌||◌, List, [], ◌∷◌, ◌++◌, map, length, get_or, take, set, sym, refl, ap, ◌∙◌, ap₂, ⊎_elim, arith}
 use Rattle.lines.specs.Changes.{timing, Alike, recosted, with_cost}
 use Rattle.lines.specs.Demand.{AllLawful, no_row, count}
 use Rattle.lines.specs.Rest.{first, every, some, divides, resting, due, product, hyperperiod, first_rest, deadlines, full_list}

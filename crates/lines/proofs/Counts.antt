@@ -1,6 +1,6 @@
 -- Counts of a line through one quotient: they are monotone and split at rest points.
-use Rattle.std.proofs.Common.{◌≡◌, ℕ, zero, suc, ◌+◌, ◌-◌, ◌*◌, ◌/◌, ◌%◌, ◌<◌, ◌≤◌, true, false, cond, eqb, ltb, leb, ◌⊎◌, sym, refl, ap, ◌∙◌, ⊎_elim, mul-le-mul_right, mul_assoc, div-lt_iff_lt-mul, add-mul, lt_of_mul-lt-mul_right, div-add-mod', le-div_iff_mul-le, zero-mul, div-mul-le_self, arith}
-use Rattle.lines.specs.Demand.{Lawful, counted, count, work}
+use Rattle.std.proofs.Common.{◌≡◌, ℕ, suc, ◌+◌, ◌-◌, ◌*◌, ◌/◌, ◌%◌, ◌<◌, ◌≤◌, true, false, ◌⊎◌, sym, ap, ◌∙◌, ⊎_elim, mul-le-mul_right, mul_assoc, div-lt_iff_lt-mul, add-mul, lt_of_mul-lt-mul_right, div-add-mod', zero-mul, arith}
+use Rattle.lines.specs.Demand.{Lawful, counted, count}
 use Rattle.lines.specs.Laws.{LineLaws}
 use Rattle.lines.specs.Rest.{resting, due}
 use Rattle.lines.specs.declared.row.Row.{Row}

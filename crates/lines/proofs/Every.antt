@@ -1,5 +1,5 @@
 -- What holds of every line, by the places of the list, and what holds of some line.
-use Rattle.std.proofs.Common.{◌≡◌, ℕ, zero, suc, ◌+◌, ◌<◌, ◌≤◌, Bool, true, false, ◌&&◌, ◌||◌, List, [], ◌∷◌, ◌++◌, length, get_or, take, refl, arith}
+use Rattle.std.proofs.Common.{◌≡◌, ℕ, zero, suc, ◌<◌, Bool, true, false, ◌&&◌, List, [], ◌∷◌, ◌++◌, length, get_or, refl, arith}
 use Rattle.lines.specs.Demand.{no_row}
 use Rattle.lines.specs.Rest.{every, some}
 use Rattle.lines.specs.declared.row.Row.{Row}

@@ -1,13 +1,13 @@
 -- Lines that are all among others: they rest no later, and their full list is contained in that of the others.
-use Rattle.std.proofs.Common.{◌≡◌, ℕ, zero, suc, ◌+◌, ◌<◌, ◌≤◌, Bool, true, false, List, [], ◌∷◌, ◌++◌, length, get_or, sym, refl, ap, ◌∙◌, subst, arith}
+use Rattle.std.proofs.Common.{◌≡◌, ℕ, zero, suc, ◌≤◌, Bool, true, false, List, length, sym, refl, ap, ◌∙◌, arith}
 use Rattle.lines.proofs.Every.{every_at, every_from, some_at, some_place}
 use Rattle.lines.proofs.Hyperperiod.{hyperperiod_fewer}
 use Rattle.lines.proofs.Listed.{deadlines_hold, deadlines_only, deadlines_bounded}
 use Rattle.lines.proofs.Rests.{first_rest_rests, first_rest_positive, first_rest_least}
 use Rattle.lines.proofs.Rising.{deadlines_due, deadlines_still, deadlines_longer}
-use Rattle.lines.specs.Demand.{Lawful, AllLawful, no_row}
+use Rattle.lines.specs.Demand.{AllLawful}
 use Rattle.lines.specs.Laws.{Among, FewerLaws}
-use Rattle.lines.specs.Rest.{every, some, divides, resting, due, hyperperiod, first_rest, deadlines, full_list}
+use Rattle.lines.specs.Rest.{every, some, divides, resting, due, first_rest, deadlines, full_list}
 use Rattle.lines.specs.declared.row.Row.{Row}
 use Rattle.std.proofs.lemmas.List.{length_push}
 use Rattle.std.specs.List.{ContainsAt as Has}

@@ -1,7 +1,7 @@
 -- What `first` finds: the least number from 1 on that passes a test, and that nothing else is it.
-use Rattle.std.proofs.Common.{◌≡◌, ℕ, zero, suc, ◌<◌, ◌≤◌, Bool, true, false, cond, sym, ⊎_elim, arith}
+use Rattle.std.proofs.Common.{◌≡◌, ℕ, zero, suc, ◌<◌, ◌≤◌, Bool, true, false, cond, ⊎_elim, arith}
 use Rattle.lines.specs.Rest.{first}
-use Rattle.std.proofs.lemmas.Bool.{cases_Bool, cases_lt}
+use Rattle.std.proofs.lemmas.Bool.{cases_lt}
 
 -- r is the least number from 1 to n that passes, or n + 1 where none does
 pub record First (test : ℕ → Bool) (n r : ℕ) : Type 0 where

@@ -1,5 +1,5 @@
 -- The laws of rest points and of deadlines, gathered for lawful rows.
-use Rattle.std.proofs.Common.{ℕ, ◌<◌, ◌≤◌, List}
+use Rattle.std.proofs.Common.{ℕ, List}
 use Rattle.lines.proofs.Every.{every_at, every_from, some_at, some_place}
 use Rattle.lines.proofs.Fewer.{due_positive}
 use Rattle.lines.proofs.Hyperperiod

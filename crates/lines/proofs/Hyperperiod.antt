@@ -1,14 +1,14 @@
 -- The hyperperiod is the least common multiple of the periods: what it divides, and how it grows by one line.
-use Rattle.std.proofs.Common.{◌≡◌, ℕ, zero, suc, ◌+◌, ◌*◌, ◌%◌, ◌<◌, ◌≤◌, Bool, true, false, eqb, List, [], ◌∷◌, ◌++◌, length, get_or, take, sym, refl, ap, ◌∙◌, subst, ⊎_elim, mod-lt, mul-pos, arith}
+use Rattle.std.proofs.Common.{◌≡◌, ℕ, zero, suc, ◌+◌, ◌%◌, ◌<◌, ◌≤◌, Bool, true, List, [], ◌∷◌, ◌++◌, length, get_or, take, sym, ap, ◌∙◌, subst, ⊎_elim, mod-lt, mul-pos, arith}
 use Rattle.lines.proofs.Every.{every_at, every_from, every_weaker, every_push}
-use Rattle.lines.proofs.First.{First, first_found, first_at_most, first_passes, first_is}
+use Rattle.lines.proofs.First.{first_found, first_at_most, first_passes}
 use Rattle.lines.proofs.Lawful.{lawful_take}
 use Rattle.lines.proofs.Multiples.{mod_through, mod_of_mod, multiple_left, multiple_right}
 use Rattle.lines.specs.Common.{Common, LeastCommon}
-use Rattle.lines.specs.Demand.{Lawful, AllLawful, no_row}
-use Rattle.lines.specs.Rest.{first, every, divides, product, hyperperiod}
+use Rattle.lines.specs.Demand.{AllLawful, no_row}
+use Rattle.lines.specs.Rest.{every, divides, product, hyperperiod}
 use Rattle.lines.specs.declared.row.Row.{Row}
-use Rattle.std.proofs.lemmas.Bool.{cases_lt, eqb-true, eq-eqb, ne_eqb, and_parts, and_from}
+use Rattle.std.proofs.lemmas.Bool.{cases_lt, eqb-true, eq-eqb, and_parts, and_from}
 use Rattle.std.proofs.lemmas.List.{take_more, length-take, get_or-take}
 
 -- m is a multiple of every period

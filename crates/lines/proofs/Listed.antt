@@ -1,14 +1,11 @@
 -- The list of deadlines up to n: it rises, and holds the deadlines up to n and nothing else.
-use Rattle.std.proofs.Common.{◌≡◌, ℕ, zero, suc, ◌+◌, ◌<◌, ◌≤◌, Bool, true, false, List, [], ◌∷◌, ◌++◌, length, get_or, sym, refl, ap, subst, ⊎_elim, arith}
-use Rattle.lines.proofs.Every.{some_at, some_place}
+use Rattle.std.proofs.Common.{◌≡◌, ℕ, zero, suc, ◌<◌, ◌≤◌, Bool, true, false, List, [], ◌∷◌, ◌++◌, length, get_or, sym, refl, ap, subst, ⊎_elim, arith}
 use Rattle.lines.proofs.Rising.{deadlines_due, deadlines_still}
-use Rattle.lines.specs.Demand.{no_row}
-use Rattle.lines.specs.Laws.{DeadlineLaws}
 use Rattle.lines.specs.Rest.{some, due, deadlines}
 use Rattle.lines.specs.declared.row.Row.{Row}
-use Rattle.std.proofs.ByRecursion.{has_append_left, has_push, has_push_cases, has_get_or}
+use Rattle.std.proofs.ByRecursion.{has_append_left, has_push, has_push_cases}
 use Rattle.std.proofs.lemmas.List.{length_push, get_or_append_left, get_or_push}
-use Rattle.std.proofs.lemmas.Bool.{cases_lt, cases_eq}
+use Rattle.std.proofs.lemmas.Bool.{cases_lt}
 use Rattle.std.specs.List.{ContainsAt as Has}
 
 -- every number of the list is at most n

@@ -1,8 +1,8 @@
 -- Multiples: how they divide, and how a walk over the multiples of one number finds the least common one.
-use Rattle.std.proofs.Common.{◌≡◌, ℕ, zero, suc, ◌+◌, ◌-◌, ◌*◌, ◌%◌, ◌<◌, ◌≤◌, min, max, sym, ap, ◌∙◌, ⊎_elim, arith}
+use Rattle.std.proofs.Common.{◌≡◌, ℕ, ◌+◌, ◌-◌, ◌*◌, ◌%◌, ◌<◌, ◌≤◌, min, max, sym, ap, ◌∙◌, ⊎_elim, arith}
 use Rattle.lines.specs.Common.{Common, LeastCommon}
-use Rattle.std.proofs.lemmas.Bool.{cases_lt, cases_eq}
-use native.Mathlib.Nat.{add-mod_right, dvd_of_mod-eq-zero, mod-eq-zero_of_dvd, dvd_trans, dvd-mod_iff, dvd-sub, le_of_dvd, dvd-mul_left, dvd-mul_right, dvd-mul_left_of_dvd, mod_self}
+use Rattle.std.proofs.lemmas.Bool.{cases_lt}
+use native.Mathlib.Nat.{add-mod_right, dvd_of_mod-eq-zero, mod-eq-zero_of_dvd, dvd_trans, dvd-mod_iff, dvd-sub, le_of_dvd, dvd-mul_right, dvd-mul_left_of_dvd, mod_self}
 
 -- what divides a divisor divides the multiple
 pub mod_through : (t h m : ℕ) → h % t ≡ 0 → m % h ≡ 0 → m % t ≡ 0

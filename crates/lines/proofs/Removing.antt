@@ -1,5 +1,5 @@
 -- Lines without one of them: they are among the lines, and where they stand in the table.
-use Rattle.std.proofs.Common.{◌≡◌, ℕ, suc, ◌+◌, ◌-◌, ◌<◌, ◌≤◌, List, ◌++◌, length, get_or, take, drop, sym, ap, ◌∙◌, subst, ap₂, ⊎_elim, add-one, arith}
+use Rattle.std.proofs.Common.{◌≡◌, ℕ, suc, ◌+◌, ◌-◌, ◌<◌, ◌≤◌, List, ◌++◌, length, take, drop, sym, ap, ◌∙◌, subst, ap₂, ⊎_elim, add-one, arith}
 use Rattle.lines.specs.Demand.{Lawful, AllLawful, no_row}
 use Rattle.lines.specs.Laws.{Among}
 use Rattle.lines.specs.declared.row.Row.{Row}

@@ -1,9 +1,9 @@
 -- Rest points: how far a line stays busy, that the hyperperiod is a rest point, and what the first one is.
-use Rattle.std.proofs.Common.{◌≡◌, ℕ, zero, suc, ◌+◌, ◌-◌, ◌*◌, ◌/◌, ◌%◌, ◌<◌, ◌≤◌, Bool, true, false, ◌||◌, eqb, leb, List, length, get_or, sym, ap, ◌∙◌, ⊎_elim, div-add-mod', arith}
-use Rattle.lines.proofs.Every.{every_at, every_from, every_weaker, every_fails}
-use Rattle.lines.proofs.First.{First, first_found, first_at_most, first_passes, first_is}
+use Rattle.std.proofs.Common.{◌≡◌, ℕ, ◌+◌, ◌-◌, ◌*◌, ◌/◌, ◌%◌, ◌<◌, ◌≤◌, true, false, List, ap, ◌∙◌, ⊎_elim, div-add-mod', arith}
+use Rattle.lines.proofs.Every.{every_weaker}
+use Rattle.lines.proofs.First.{first_found, first_at_most, first_passes, first_is}
 use Rattle.lines.proofs.Hyperperiod.{hyperperiod_common, hyperperiod_positive}
-use Rattle.lines.specs.Demand.{Lawful, AllLawful, no_row}
+use Rattle.lines.specs.Demand.{Lawful, AllLawful}
 use Rattle.lines.specs.Rest.{every, divides, resting, hyperperiod, first_rest}
 use Rattle.lines.specs.declared.row.Row.{Row}
 use Rattle.std.proofs.lemmas.Bool.{cases_lt}

@@ -1,11 +1,11 @@
 -- The next deadline of a line, and how the list of deadlines grows from one deadline to the next.
-use Rattle.std.proofs.Common.{◌≡◌, ℕ, zero, suc, ◌+◌, ◌-◌, ◌*◌, ◌/◌, ◌%◌, ◌<◌, ◌≤◌, min, Bool, true, false, cond, ◌&&◌, eqb, ltb, leb, List, [], ◌∷◌, ◌++◌, length, get_or, sym, refl, ap, ◌∙◌, ⊎_elim, mod-lt, add-mul, div-add-mod', arith}
-use Rattle.lines.proofs.Every.{some_at, some_none, some_place}
-use Rattle.lines.specs.Demand.{Lawful, AllLawful, no_row, count, counted}
+use Rattle.std.proofs.Common.{◌≡◌, ℕ, zero, suc, ◌+◌, ◌-◌, ◌*◌, ◌/◌, ◌%◌, ◌<◌, ◌≤◌, min, Bool, true, false, List, [], ◌∷◌, ◌++◌, length, get_or, refl, ap, ◌∙◌, ⊎_elim, mod-lt, div-add-mod', arith}
+use Rattle.lines.proofs.Every.{some_at, some_none}
+use Rattle.lines.specs.Demand.{Lawful, AllLawful, no_row, count}
 use Rattle.lines.specs.Rest.{some, due, deadline_after, deadlines}
 use Rattle.lines.specs.declared.row.Row.{Row}
 use Rattle.std.proofs.lemmas.List.{length_push}
-use Rattle.std.proofs.lemmas.Bool.{cases_lt, cases_Bool}
+use Rattle.std.proofs.lemmas.Bool.{cases_lt}
 use lib.Arith.{digits_mod}
 use native.Mathlib.Nat.{mul-mod_left}
 

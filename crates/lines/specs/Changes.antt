@@ -1,5 +1,5 @@
 -- What changing a set of lines or a watch list makes of it. Assumes nothing.
-use Rattle.std.specs.Prelude.{◌≡◌, ℕ, not, List, [], ◌∷◌, map, length, set, filter, ◌==◌, nat_le, slice_index_or, slice_set}
+use Rattle.std.specs.Prelude.{◌≡◌, ℕ, not, List, [], ◌∷◌, map, length, filter, ◌==◌, nat_le, slice_index_or, slice_set}
 use Rattle.lines.specs.Calls.{outside}
 use Rattle.lines.specs.Demand.{no_row}
 use Rattle.lines.specs.declared.row.Row.{Row}

@@ -1,6 +1,6 @@
 -- What is proved of counts, rest points and deadlines, as laws. Assumes nothing.
 use Rattle.std.specs.Prelude.{◌≡◌, ℕ, ◌+◌, ◌-◌, ◌*◌, ◌%◌, ◌<◌, ◌≤◌, true, List, length, get_or, slice_index, slice_index_or}
-use Rattle.lines.specs.Demand.{Lawful, AllLawful, no_row, count, work}
+use Rattle.lines.specs.Demand.{no_row, count, work}
 use Rattle.lines.specs.Rest.{every, resting, due, hyperperiod, first_rest, deadlines, full_list}
 use Rattle.lines.specs.declared.row.Row.{Row}
 use Rattle.std.specs.List.{ContainsAt as Has}

@@ -1,7 +1,6 @@
 -- What a call answers: its promise where no check fails, and else the refusal of the first check that does. Assumes nothing.
 use Rattle.std.specs.Prelude.{◌≡◌, ℕ, Bool, cond, List, [], ◌∷◌, Some, None, Ok, Err, Option, Result, MatchResult}
 use Rattle.refusal.specs.declared.Refusal.{Refusal}
-use Rattle.refusal.specs.declared.layer.Layer.{Layer}
 use Rattle.refusal.specs.declared.layer.Layer.TheVariants.{Roster}
 use Rattle.refusal.specs.declared.reason.Reason.{Reason}
 

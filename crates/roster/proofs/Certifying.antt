@@ -1,11 +1,10 @@
 -- The checks of a certificate one after another: what is left once some have passed.
-use Rattle.std.proofs.Common.{◌≡◌, ℕ, ◌≤◌, true, false, not, List, length, Some, None, ap, ◌∙◌, arith}
+use Rattle.std.proofs.Common.{◌≡◌, ℕ, ◌≤◌, true, false, not, List, length, None, ap, ◌∙◌, arith}
 use Rattle.analysis.specs.Watching.{Cite}
 use Rattle.lines.specs.Calls.{outside}
 use Rattle.lines.specs.declared.row.Row.{Row}
-use Rattle.refusal.proofs.Checks.{refusal_behind, refusal_first}
+use Rattle.refusal.proofs.Checks.{refusal_behind}
 use Rattle.refusal.specs.Answers.{refusal_of}
-use Rattle.refusal.specs.declared.Refusal.{Refusal}
 use Rattle.roster.proofs.Passing.{behind_figures, behind_watched, behind_cites, behind_counts}
 use Rattle.roster.specs.Certificate.{listed, each, weight_check, cited_check, count_check, figure_checks, cut_checks}
 use Rattle.std.proofs.lemmas.Bool.{cond-false}

@@ -1,5 +1,5 @@
 -- One call more in a list of calls that are made.
-use Rattle.std.proofs.Common.{◌≡◌, ℕ, ◌+◌, ◌<◌, List, [], ◌∷◌, ◌++◌, map, length, get_or, take, Result, sym, refl, ap, ◌∙◌, subst}
+use Rattle.std.proofs.Common.{◌≡◌, ℕ, ◌+◌, ◌<◌, List, [], ◌∷◌, ◌++◌, map, length, get_or, take, Result, sym, ap, ◌∙◌, subst}
 use Rattle.analysis.specs.History as history
 use Rattle.roster.specs.Working.{rows_in, watched_in, Works}
 use Rattle.roster.specs.declared.roster.Roster.{Roster}

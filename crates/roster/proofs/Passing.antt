@@ -1,7 +1,7 @@
 -- A call is made exactly where none of its checks fails, so histories go on whatever was refused.
-use Rattle.std.proofs.Common.{◌≡◌, ℕ, ◌*◌, ◌<◌, ◌≤◌, Bool, true, false, not, ◌||◌, eqb, ltb, List, [], ◌∷◌, ◌++◌, length, get_or, Some, None, Ok, Err, Result, sym, refl, ap, ◌∙◌, subst, arith}
-use Rattle.analysis.specs.History.{Call, enrol, strike, recost, cut, Accepted, rows_after, watched_after, taken, Made, Reached, made, refused}
-use Rattle.analysis.specs.Watching.{Cite, Certifies, weighed}
+use Rattle.std.proofs.Common.{◌≡◌, ℕ, ◌*◌, ◌≤◌, Bool, true, false, not, ◌||◌, eqb, ltb, List, [], ◌∷◌, ◌++◌, length, Some, None, Ok, Err, Result, sym, refl, ap, subst, arith}
+use Rattle.analysis.specs.History.{Call, enrol, strike, recost, cut, Accepted, rows_after, watched_after, Made, Reached, made, refused}
+use Rattle.analysis.specs.Watching.{Cite, weighed}
 use Rattle.lines.specs.Calls.{outside}
 use Rattle.lines.specs.Demand.{no_row, count}
 use Rattle.lines.specs.declared.row.Row.{Row}
@@ -15,8 +15,8 @@ use Rattle.roster.specs.Certificate.{listed, each, weight_check, cited_check, co
 use Rattle.roster.specs.Working.{rows_in, watched_in, checks, Works}
 use Rattle.roster.specs.declared.roster.Roster.{Roster}
 use Rattle.std.proofs.ByRecursion.{All-weaker, All-get_or, All-from_get_or}
-use Rattle.std.proofs.lemmas.Bool.{eqb-true, eq-eqb}
-use Rattle.std.specs.List.{ContainsAt as Has, AllByRecursion as All}
+use Rattle.std.proofs.lemmas.Bool.{eq-eqb}
+use Rattle.std.specs.List.{ContainsAt as Has}
 use Rattle.supply.specs.Meaning.{Meaning}
 
 ranged : (low high x : ℕ) → outside low high x ≡ false → (low ≤ x) × (x ≤ high)

@@ -1,5 +1,5 @@
 -- The cites that bytes spell, and sums over them.
-use Rattle.std.proofs.Common.{◌≡◌, ℕ, ◌+◌, ◌*◌, ◌/◌, ◌%◌, ◌<◌, ◌≤◌, true, false, eqb, List, [], map, length, get_or, drop, sym, refl, ap, ◌∙◌, ⊎_elim, mul-le-mul, div-add-mod', zero-add, arith}
+use Rattle.std.proofs.Common.{◌≡◌, ℕ, ◌+◌, ◌*◌, ◌/◌, ◌%◌, ◌<◌, ◌≤◌, false, eqb, List, [], map, length, get_or, drop, ap, ◌∙◌, ⊎_elim, mul-le-mul, div-add-mod', zero-add, arith}
 use Rattle.analysis.specs.Watching.{Cite, weighed}
 use Rattle.roster.specs.Certificate.{cite_at, cites_of, Whole}
 use Rattle.std.proofs.lemmas.List.FromFn.{length-map-range_with_len, get_or-map-range_with_len}

@@ -1,5 +1,5 @@
 -- How the draft of a sheet grows by a line, how long it is, and what is whole at its end.
-use Rattle.std.proofs.Common.{◌≡◌, ℕ, suc, ◌+◌, ◌*◌, ◌<◌, ◌≤◌, List, [], ◌∷◌, ◌++◌, map, length, get_or, take, sym, refl, ap, ◌∙◌, arith}
+use Rattle.std.proofs.Common.{◌≡◌, ℕ, suc, ◌+◌, ◌*◌, ◌<◌, ◌≤◌, List, [], ◌++◌, map, length, get_or, take, sym, ap, ◌∙◌, arith}
 use Rattle.grammar.proofs.Going.{spelled_push}
 use Rattle.grammar.proofs.Writing.{lines_length}
 use Rattle.grammar.specs.Records.{line, spelled, spelled_all, opening, closing, sheet}

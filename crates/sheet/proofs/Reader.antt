@@ -15,7 +15,7 @@ use Rattle.roster.specs.Working.{checks, rows_in, watched_in}
 use Rattle.roster.specs.declared.roster.Roster.{Roster}
 use Rattle.sheet.specs.Reading.{Going, Leaves}
 use Rattle.sheet.specs.Stepping.{Opens, Takes, Faulty}
-use Rattle.std.proofs.lemmas.List.{append-nil, drop-drop, drop_at, length-append, length-drop, length_push, nil_from_length}
+use Rattle.std.proofs.lemmas.List.{drop-drop, drop_at, length-append, length-drop, length_push, nil_from_length}
 use Rattle.supply.specs.Meaning.{Meaning}
 use Rattle.supply.specs.Named.{named}
 use Rattle.supply.specs.declared.named.Named.{Named}

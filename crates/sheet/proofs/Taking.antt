@@ -1,11 +1,10 @@
 -- A record whose call is made is taken, and one whose call is refused is at fault.
-use Rattle.std.proofs.Common.{◌≡◌, ℕ, ◌+◌, ◌*◌, ◌<◌, ◌≤◌, List, ◌++◌, length, Some, None, Ok, Err, Result, subst, arith}
-use Rattle.analysis.specs.History.{Call, enrol, cut}
+use Rattle.std.proofs.Common.{◌≡◌, ℕ, List, ◌++◌, length, Some, None, Ok, Err, Result, subst}
+use Rattle.analysis.specs.History.{Call}
 use Rattle.grammar.specs.Reading.{turned_down, unlawful}
 use Rattle.grammar.specs.Records.{Record, call_of, spelled, opening}
 use Rattle.grammar.specs.Supplies.{supply_of, field_checks}
 use Rattle.grammar.specs.declared.fields.Fields.{Fields}
-use Rattle.lines.specs.declared.row.Row.{Row}
 use Rattle.refusal.specs.Answers.{refusal_of, Answered}
 use Rattle.refusal.specs.declared.Refusal.{Refusal}
 use Rattle.roster.specs.Working.{Works}

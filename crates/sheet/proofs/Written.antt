@@ -1,9 +1,9 @@
 -- What writing answers and leaves, from the draft that is handed over, and that reading it brings the lines back.
-use Rattle.std.proofs.Common.{◌≡◌, ℕ, List, [], ◌∷◌, ◌++◌, map, length, take, drop, IfOk, None, Ok, Err, Result, sym, refl, ap, ◌∙◌, subst, arith}
+use Rattle.std.proofs.Common.{◌≡◌, ℕ, List, [], ◌∷◌, map, length, take, drop, IfOk, None, Ok, Err, Result, sym, ap, ◌∙◌, subst, arith}
 use Rattle.grammar.proofs.OneReading.{one_reading}
 use Rattle.grammar.proofs.Writing.{plain_lines, written_accepted}
 use Rattle.grammar.specs.Reading.{rows_through, Outcome, accepted, refused}
-use Rattle.grammar.specs.Records.{Record, line, calls_of, sheet}
+use Rattle.grammar.specs.Records.{Record, line, calls_of}
 use Rattle.grammar.specs.Supplies.{supply_of, field_checks}
 use Rattle.grammar.specs.Theorems.{Holdable}
 use Rattle.grammar.specs.declared.fields.Fields.{Fields}

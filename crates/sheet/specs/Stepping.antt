@@ -1,7 +1,7 @@
 -- What the reader makes of one record. Assumes nothing.
 use Rattle.std.specs.Prelude.{◌≡◌, ℕ, List, ◌++◌, length, None, Ok, Err, Result}
 use Rattle.analysis.specs.History.{rows_after, watched_after}
-use Rattle.grammar.specs.Reading.{First, FaultFirst, Fault}
+use Rattle.grammar.specs.Reading.{FaultFirst, Fault}
 use Rattle.grammar.specs.Records.{Record, call_of, spelled, opening, closing}
 use Rattle.grammar.specs.Supplies.{supply_of, field_checks}
 use Rattle.grammar.specs.declared.fields.Fields.{Fields}

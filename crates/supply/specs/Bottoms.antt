@@ -1,7 +1,7 @@
 -- The laws of the supplies that an office can name, case by case.
 use Rattle.supply.specs.Piles.{share_lawful}
 use Rattle.supply.specs.Rows.{repeating_lawful}
-use Rattle.supply.specs.Meaning.{Meaning, Counting, Lawful}
+use Rattle.supply.specs.Meaning.{Lawful}
 use Rattle.supply.specs.Named.{bottom, named}
 use Rattle.supply.specs.Timetable.{bits}
 use Rattle.supply.specs.Whole.{whole}

@@ -1,6 +1,6 @@
 -- What follows from the laws of a supply alone: least is bounded, monotone and superadditive.
 use Rattle.std.specs.Prelude.{◌≡◌, ℕ, zero, suc, ◌+◌, ◌<◌, ◌≤◌}
-use Rattle.std.proofs.Common.{sym, ap, ◌∙◌, arith}
+use Rattle.std.proofs.Common.{ap, arith}
 use native.Mathlib.Nat.{zero-add}
 use Rattle.supply.specs.Meaning.{Meaning, Counting, Lawful, LeastLaws}
 

@@ -1,5 +1,4 @@
 -- The whole processor: one phase, and every slot is given. Assumes nothing.
-use Rattle.std.specs.Prelude.{ℕ}
 use Rattle.supply.specs.Meaning.{Meaning}
 
 abbrev pub whole : Meaning

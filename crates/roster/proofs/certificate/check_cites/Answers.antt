@@ -1,14 +1,11 @@
-use Rattle.std.proofs.Common.{◌≡◌, ◌+◌, ◌*◌, ◌/◌, ◌<◌, ◌≤◌, true, false, not, ◌||◌, eqb, ltb, length, get_or, drop, Some, sym, ap, ◌∙◌, div-add-mod', arith}
-use Rattle.analysis.specs.Watching.{weighed}
-use Rattle.lines.specs.Calls.{outside}
-use Rattle.lines.specs.Demand.{count, no_row}
-use Rattle.lines.specs.Of.{rows_of, watched}
+use Rattle.std.proofs.Common.{◌≡◌, ◌+◌, ◌<◌, not, ◌||◌, eqb, length, get_or, Some, sym, ap, ◌∙◌, arith}
+use Rattle.lines.specs.Of.{watched}
 use Rattle.refusal.proofs.Checks.{refused_at}
-use Rattle.refusal.specs.declared.reason.Reason.TheVariants.{NotWatched, CertificateOutOfRange, CountNotCovered, SupplyNotCovered}
+use Rattle.refusal.specs.declared.reason.Reason.TheVariants.{NotWatched}
 use Rattle.roster.proofs.Each.{reading_none, reading_more, reading_stops, reading_all}
-use Rattle.roster.proofs.Spelling.{no_cite, spelled_length, spelled_at, weighed_more, weighed_all}
+use Rattle.roster.proofs.Spelling.{no_cite, spelled_length, spelled_at}
 use Rattle.roster.proofs.certificate.check_cites.Goals as goal
-use Rattle.roster.specs.Certificate.{listed, cites_of, weight_check, cited_check, count_check}
+use Rattle.roster.specs.Certificate.{listed, cites_of, cited_check}
 
 pub loop-k-init : goal.loop-k-init
 loop-k-init c = reading_none (cited_check (watched c.args.list.now) c.args.d) 1 (cites_of c.args.bytes.now)

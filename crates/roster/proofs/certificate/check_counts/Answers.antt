@@ -1,15 +1,13 @@
-use Rattle.std.proofs.Common.{◌≡◌, ◌+◌, ◌*◌, ◌/◌, ◌<◌, ◌≤◌, true, false, not, ◌||◌, eqb, ltb, length, get_or, drop, Some, sym, ap, ◌∙◌, zero-add, arith}
+use Rattle.std.proofs.Common.{◌≡◌, ◌*◌, ◌<◌, ◌≤◌, true, false, ltb, Some, sym, ap, ◌∙◌, zero-add, arith}
 use Rattle.analysis.specs.Watching.{weighed}
-use Rattle.lines.specs.Calls.{outside}
 use Rattle.lines.specs.Demand.{count, no_row}
-use Rattle.lines.specs.Of.{rows_of, watched}
+use Rattle.lines.specs.Of.{rows_of}
 use Rattle.refusal.proofs.Checks.{refused_at}
 use Rattle.refusal.specs.Answers.{check_at}
-use Rattle.refusal.specs.declared.reason.Reason.TheVariants.{NotWatched, CertificateOutOfRange, CountNotCovered, SupplyNotCovered}
-use Rattle.roster.proofs.Each.{reading_none, reading_more, reading_stops, reading_all}
-use Rattle.roster.proofs.Spelling.{no_cite, spelled_length, spelled_at, weighed_more, weighed_all}
+use Rattle.refusal.specs.declared.reason.Reason.TheVariants.{CountNotCovered}
+use Rattle.roster.proofs.Each.{reading_more, reading_stops, reading_all}
 use Rattle.roster.proofs.certificate.check_counts.Goals as goal
-use Rattle.roster.specs.Certificate.{listed, cites_of, weight_check, cited_check, count_check}
+use Rattle.roster.specs.Certificate.{cites_of, count_check}
 use Rattle.std.proofs.lemmas.List.{length-take}
 
 pub returns-then-weighed_count-term : goal.returns-then-weighed_count-term

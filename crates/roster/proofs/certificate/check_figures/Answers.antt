@@ -1,4 +1,4 @@
-use Rattle.std.proofs.Common.{◌≡◌, ◌≤◌, length, sym, ap, ◌∙◌, arith}
+use Rattle.std.proofs.Common.{◌≤◌, length, sym, arith}
 use Rattle.refusal.proofs.Checks.{answered_alike}
 use Rattle.roster.proofs.Certifying.{figures_weights}
 use Rattle.roster.proofs.Spelling.{whole_bytes}

@@ -1,7 +1,6 @@
 use Rattle.lines.specs.Of.{watched}
 use Rattle.roster.proofs.Listed.{decided}
 use Rattle.roster.proofs.certificate.may_cite.Goals as goal
-use Rattle.roster.specs.Certificate.{listed}
 use Rattle.std.proofs.Common.{arith}
 
 pub returns-then-cited-d : goal.returns-then-cited-d

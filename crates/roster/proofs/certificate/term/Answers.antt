@@ -1,4 +1,4 @@
-use Rattle.std.proofs.Common.{◌*◌, ◌∙◌, ap₂, arith}
+use Rattle.std.proofs.Common.{◌*◌, ap₂, arith}
 use Rattle.roster.proofs.Spelling.{term_bound}
 use Rattle.roster.proofs.certificate.term.Goals as goal
 

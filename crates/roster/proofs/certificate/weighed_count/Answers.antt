@@ -1,14 +1,7 @@
-use Rattle.std.proofs.Common.{◌≡◌, ◌+◌, ◌*◌, ◌/◌, ◌<◌, ◌≤◌, true, false, not, ◌||◌, eqb, ltb, length, get_or, drop, Some, sym, ap, ◌∙◌, ap₂, div-add-mod', arith}
-use Rattle.analysis.specs.Watching.{weighed}
-use Rattle.lines.specs.Calls.{outside}
-use Rattle.lines.specs.Demand.{count, no_row}
-use Rattle.lines.specs.Of.{rows_of, watched}
-use Rattle.refusal.proofs.Checks.{refused_at}
-use Rattle.refusal.specs.declared.reason.Reason.TheVariants.{NotWatched, CertificateOutOfRange, CountNotCovered, SupplyNotCovered}
-use Rattle.roster.proofs.Each.{reading_none, reading_more, reading_stops, reading_all}
-use Rattle.roster.proofs.Spelling.{no_cite, spelled_length, spelled_at, weighed_more, weighed_all}
+use Rattle.std.proofs.Common.{◌*◌, length, ap, ◌∙◌, ap₂, div-add-mod', arith}
+use Rattle.lines.specs.Demand.{count}
+use Rattle.roster.proofs.Spelling.{weighed_more, weighed_all}
 use Rattle.roster.proofs.certificate.weighed_count.Goals as goal
-use Rattle.roster.specs.Certificate.{listed, cites_of, weight_check, cited_check, count_check}
 
 pub overflow_add-sum : goal.overflow_add-sum
 overflow_add-sum c =

@@ -4,7 +4,7 @@ use Rattle.roster.proofs.history.after.Goals as goal
 use Rattle.roster.specs.Calling.{call_of}
 use Rattle.roster.specs.Working.{rows_in, watched_in}
 use Rattle.std.proofs.lemmas.List.{take_all}
-use Rattle.std.proofs.Common.{[], map, take, sym, refl, ap, ◌∙◌, subst}
+use Rattle.std.proofs.Common.{[], map, take, sym, refl, ◌∙◌, subst}
 
 pub loop-call-init : goal.loop-call-init
 loop-call-init g c =

@@ -4,7 +4,7 @@ use Rattle.analysis.specs.Verdict.{ExactVerdict}
 use Rattle.roster.proofs.history.judged.Goals as goal
 use Rattle.roster.specs.Calling.{call_of}
 use Rattle.roster.specs.Working.{rows_in, watched_in}
-use Rattle.std.proofs.Common.{◌≡◌, [], map, sym, ap, subst}
+use Rattle.std.proofs.Common.{[], map, sym, subst}
 
 pub returns : goal.returns
 returns g c =

@@ -1,4 +1,4 @@
-use Rattle.std.proofs.Common.{◌≡◌, ◌+◌, ◌++◌, length, sym, refl, ap, ◌∙◌, ap₂, arith}
+use Rattle.std.proofs.Common.{◌≡◌, ◌++◌, length, sym, refl, ap, ◌∙◌, ap₂, arith}
 use Rattle.analysis.proofs.Releases.{before_quiet, released_fits}
 use Rattle.analysis.specs.Legal.{released_at, released_before}
 use Rattle.lines.specs.Of.{rows_of}

@@ -1,12 +1,11 @@
-use Rattle.std.proofs.Common.{◌≡◌, ℕ, ◌+◌, ◌-◌, ◌^◌, ◌<◌, ◌≤◌, List, length, take, drop, Ok, Err, Result, sym, refl, ap, subst, arith, w64, Fits}
-use Rattle.grammar.specs.Reading.{Refused, by_sheet}
+use Rattle.std.proofs.Common.{◌≡◌, ℕ, ◌+◌, ◌-◌, List, length, take, drop, Ok, Err, Result, sym, refl, ap, subst, arith}
+use Rattle.grammar.specs.Reading.{Refused}
 use Rattle.refusal.specs.declared.Refusal.{Refusal}
-use Rattle.refusal.specs.declared.reason.Reason.TheVariants.{BytesAfterEnd}
 use Rattle.roster.specs.declared.roster.Roster.{Roster}
-use Rattle.sheet.proofs.Reader.{record_within, record_some, going_more, going_fault, last_within, going_behind, going_done}
+use Rattle.sheet.proofs.Reader.{record_within, record_some, going_more, going_fault, going_behind, going_done}
 use Rattle.sheet.proofs.reading.records.Goals as goal
 use Rattle.sheet.specs.Reading.{Leaves}
-use Rattle.sheet.specs.Stepping.{Takes, Faulty, Stepping}
+use Rattle.sheet.specs.Stepping.{Takes, Stepping}
 use Rattle.sheet.specs.declared.step.Step.{Step}
 use Rattle.sheet.specs.declared.step.Step.TheVariants.{Taken, Closed}
 use Rattle.std.proofs.lemmas.List.{take_rest}

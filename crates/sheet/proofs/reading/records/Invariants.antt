@@ -1,4 +1,4 @@
-use Rattle.std.proofs.Common.{◌-◌, ◌≤◌, length}
+use Rattle.std.proofs.Common.{◌-◌, length}
 use Rattle.sheet.proofs.reading.records.Given as goal
 use Rattle.sheet.specs.Reading.{Going}
 

@@ -1,12 +1,12 @@
-use Rattle.std.proofs.Common.{◌≡◌, ◌+◌, ◌-◌, ◌*◌, ◌<◌, ◌≤◌, List, ◌∷◌, length, get_or, take, drop, sym, refl, ap, ◌∙◌, subst, arith, ltb-false, ltb-true}
-use Rattle.analysis.specs.History.{Call, cut}
-use Rattle.grammar.proofs.Decoding.{pair, cites_in, certificate_in, spells_certificate, short_certificate, cites_handed, certificate_length}
+use Rattle.std.proofs.Common.{◌+◌, ◌*◌, ◌<◌, ◌≤◌, ◌∷◌, length, get_or, drop, sym, ap, subst, arith, ltb-false, ltb-true}
+use Rattle.analysis.specs.History.{cut}
+use Rattle.grammar.proofs.Decoding.{certificate_in, spells_certificate, short_certificate, cites_handed, certificate_length}
 use Rattle.grammar.specs.Reading.{cut_short}
 use Rattle.roster.specs.Certificate.{cites_of}
 use Rattle.sheet.proofs.Taking.{taken, refused}
 use Rattle.sheet.proofs.records.cut.Goals as goal
 use Rattle.sheet.specs.Stepping.{Faulty}
-use Rattle.std.proofs.lemmas.List.{take_rest, length-drop, get_or_past}
+use Rattle.std.proofs.lemmas.List.{take_rest, length-drop}
 use Rattle.std.proofs.lemmas.Result.{err_from_is_err_and}
 
 pub returns-in_default : goal.returns-in_default

@@ -1,5 +1,4 @@
-use Rattle.std.proofs.Common.{◌≡◌, ◌<◌, ◌≤◌, ◌∷◌, length, drop, sym, refl, ap, subst, arith, ltb-false, ltb-true}
-use Rattle.analysis.specs.History.{enrol}
+use Rattle.std.proofs.Common.{◌<◌, ◌≤◌, ◌∷◌, length, drop, sym, refl, subst, arith, ltb-false, ltb-true}
 use Rattle.grammar.proofs.Decoding.{row_in, spells_line, short_line}
 use Rattle.grammar.specs.Reading.{cut_short}
 use Rattle.grammar.specs.Records.{line}

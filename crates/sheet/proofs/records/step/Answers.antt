@@ -1,11 +1,8 @@
-use Rattle.std.proofs.Common.{◌≡◌, ◌<◌, ◌≤◌, length, get_or, sym, subst, inl, arith, rules, ltb-false, ltb-true}
-use Rattle.grammar.proofs.Decoding.{Unlike, behind_mark, misplaced_later}
-use Rattle.grammar.specs.Reading.{Fault, cut_short, misplaced}
-use Rattle.roster.specs.Working.{rows_in, watched_in}
+use Rattle.std.proofs.Common.{◌<◌, ◌≤◌, length, sym, subst, inl, arith, rules, ltb-false, ltb-true}
+use Rattle.grammar.proofs.Decoding.{Unlike, misplaced_later}
+use Rattle.grammar.specs.Reading.{cut_short, misplaced}
 use Rattle.sheet.proofs.records.step.Goals as goal
-use Rattle.sheet.specs.Stepping.{Takes, Faulty}
-use Rattle.std.proofs.lemmas.Result.{err_from_is_err_and}
-use Rattle.supply.specs.Named.{named}
+use Rattle.sheet.specs.Stepping.{Faulty}
 
 pub returns-in_default : goal.returns-in_default
 returns-in_default c =

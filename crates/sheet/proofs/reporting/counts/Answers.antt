@@ -6,7 +6,7 @@ use Rattle.sheet.proofs.Joining.{three}
 use Rattle.sheet.proofs.reporting.counts.Goals as goal
 use Rattle.sheet.specs.Drafts.{drafted}
 use Rattle.sheet.specs.Reports.{figure_line}
-use Rattle.std.proofs.Common.{◌≡◌, ◌++◌, length, codes, ap, ◌∙◌, arith}
+use Rattle.std.proofs.Common.{◌++◌, length, codes, ap, ◌∙◌, arith}
 
 pub returns : goal.returns
 returns c =

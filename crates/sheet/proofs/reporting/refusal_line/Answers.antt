@@ -3,7 +3,7 @@ use Rattle.sheet.proofs.Joining.{nine}
 use Rattle.sheet.proofs.reporting.refusal_line.Goals as goal
 use Rattle.sheet.specs.Drafts.{drafted}
 use Rattle.sheet.specs.Reports.{layer_name}
-use Rattle.std.proofs.Common.{◌≡◌, [], ◌∷◌, ◌++◌, codes, decimal, sym, ap, ◌∙◌}
+use Rattle.std.proofs.Common.{[], ◌∷◌, ◌++◌, codes, decimal, ap, ◌∙◌}
 
 pub returns : goal.returns
 returns c =

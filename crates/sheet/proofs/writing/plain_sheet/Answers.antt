@@ -1,5 +1,5 @@
-use Rattle.std.proofs.Common.{◌≡◌, ◌+◌, ◌*◌, ◌<◌, ◌≤◌, ◌++◌, length, sym, ap, ◌∙◌, arith}
-use Rattle.grammar.specs.Records.{spelled, line, opening}
+use Rattle.std.proofs.Common.{◌≡◌, ◌++◌, length, sym, ap, ◌∙◌, arith}
+use Rattle.grammar.specs.Records.{opening}
 use Rattle.lines.specs.Of.{rows_of}
 use Rattle.sheet.proofs.Drafting.{written_to, written_none, written_more, rows_few, draft_length, draft_whole}
 use Rattle.sheet.proofs.writing.plain_sheet.Goals as goal

@@ -4,7 +4,7 @@ use Rattle.lines.proofs.Lawful.{lawful_push}
 use Rattle.lines.proofs.table.Lines.add.Goals as goal
 use Rattle.lines.specs.Calls.{set_checks, add_checks}
 use Rattle.lines.specs.Demand.{Lawful, AllLawful}
-use Rattle.lines.specs.Of.{rows_of, watched}
+use Rattle.lines.specs.Of.{rows_of}
 use Rattle.lines.specs.Rest.{full_list}
 use Rattle.refusal.proofs.Checks.{answered_alike}
 use Rattle.refusal.specs.Answers.{refusal_of}

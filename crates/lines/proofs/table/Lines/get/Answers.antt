@@ -1,7 +1,7 @@
 use Rattle.lines.proofs.table.Lines.get.Goals as goal
 use Rattle.lines.specs.Demand.{Lawful, no_row}
 use Rattle.std.proofs.lemmas.List.{get_or-take, length-take}
-use Rattle.std.proofs.Common.{length, get_or, sym, ◌∙◌, subst, arith}
+use Rattle.std.proofs.Common.{sym, ◌∙◌, subst, arith}
 
 pub of-requires : goal.of-requires
 of-requires c =

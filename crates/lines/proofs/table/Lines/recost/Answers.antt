@@ -1,4 +1,4 @@
-use Rattle.std.proofs.Common.{◌≡◌, ◌<◌, ◌≤◌, length, get_or, take, set, sym, ap, ◌∙◌, subst, arith}
+use Rattle.std.proofs.Common.{◌≡◌, ◌<◌, length, get_or, take, set, sym, ap, ◌∙◌, subst, arith}
 use Rattle.lines.proofs.Costs.{front_recosted, alike_recosted, lawful_recosted, hyperperiod_alike, full_list_alike}
 use Rattle.lines.proofs.table.Lines.recost.Goals as goal
 use Rattle.lines.specs.Changes.{with_cost, recosted}

@@ -1,4 +1,4 @@
-use Rattle.std.proofs.Common.{◌≡◌, ℕ, ◌+◌, ◌*◌, ◌≤◌, get_or, drop, refl, ap, ◌∙◌, mul-le-mul, arith}
+use Rattle.std.proofs.Common.{◌≡◌, ◌*◌, ◌≤◌, get_or, ap, ◌∙◌, mul-le-mul, arith}
 use Rattle.lines.proofs.table.methods.demand_of.Goals as goal
 use Rattle.lines.specs.Demand.{no_row, count, work, demand}
 use Rattle.lines.specs.declared.row.Row.{Row}

@@ -1,4 +1,4 @@
-use Rattle.std.proofs.Common.{◌≡◌, ◌<◌, [], ◌∷◌, ◌++◌, length, get_or, sym, ap, ◌∙◌, arith}
+use Rattle.std.proofs.Common.{◌<◌, [], ◌∷◌, ◌++◌, length, get_or, ap, ◌∙◌, arith}
 use Rattle.lines.proofs.Leaving.{pushed, without_more_stays, without_more_leaves}
 use Rattle.lines.proofs.watch_list.WatchList.without.Goals as goal
 use Rattle.lines.proofs.watch_list.WatchList.without.Goals.{then-x-d, else-x-d}

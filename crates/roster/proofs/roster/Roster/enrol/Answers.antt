@@ -3,7 +3,7 @@ use Rattle.roster.proofs.Passing.{works_by}
 use Rattle.roster.proofs.roster.Roster.enrol.Goals as goal
 use Rattle.lines.specs.Rest.{full_list}
 use Rattle.std.proofs.lemmas.Result.{err_from_is_err_and}
-use Rattle.std.proofs.Common.{Err, sym, refl, ap, ◌∙◌}
+use Rattle.std.proofs.Common.{Err, refl, ap, ◌∙◌}
 
 pub returns-in_err-lines : goal.returns-in_err-lines
 returns-in_err-lines g c =

@@ -2,7 +2,7 @@ use Rattle.analysis.specs.History.{recost}
 use Rattle.roster.proofs.Passing.{left_same, works_by}
 use Rattle.roster.proofs.roster.Roster.recost.Goals as goal
 use Rattle.roster.specs.Working.{watched_in}
-use Rattle.std.proofs.Common.{sym, refl, ap, ◌∙◌}
+use Rattle.std.proofs.Common.{refl}
 
 pub returns : goal.returns
 returns g c = works_by _ _ _ (recost c.args.number c.args.cost) c.recost.result _ c.recost.ensures.answer c.recost.ensures.rows (left_same c.recost.result (watched_in c.args.self.now)) refl

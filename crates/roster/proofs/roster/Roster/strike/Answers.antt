@@ -1,5 +1,5 @@
 use Rattle.analysis.specs.History.{strike}
-use Rattle.std.proofs.Common.{◌<◌, ◌≤◌, length, sym, refl, ap, ◌∙◌, arith}
+use Rattle.std.proofs.Common.{◌<◌, ◌≤◌, length, refl, ap, ◌∙◌, arith}
 use Rattle.lines.specs.Rest.{full_list}
 use Rattle.roster.proofs.Passing.{works_by}
 use Rattle.roster.proofs.roster.Roster.strike.Goals as goal

@@ -3,7 +3,7 @@ use Rattle.roster.proofs.roster.Roster.watched_overload.Goals as goal
 use Rattle.roster.specs.Working.{rows_in}
 use Rattle.std.proofs.ByRecursion.{has_get_or}
 use Rattle.std.specs.List.{ContainsAt as Has}
-use Rattle.std.proofs.Common.{◌≡◌, get_or, sym, ap, ◌∙◌, subst, arith}
+use Rattle.std.proofs.Common.{get_or, sym, subst, arith}
 
 pub returns-then-exceeds : goal.returns-then-exceeds
 returns-then-exceeds g c =

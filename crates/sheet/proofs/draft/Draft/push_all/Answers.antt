@@ -1,7 +1,7 @@
 use Rattle.sheet.proofs.draft.Draft.push_all.Goals as goal
 use Rattle.sheet.specs.Drafts.{drafted}
 use Rattle.std.proofs.lemmas.List.{append_assoc, length-append, length-take-le, take_more, take_all}
-use Rattle.std.proofs.Common.{◌≡◌, [], ◌∷◌, ◌++◌, length, get_or, take, sym, ap, ◌∙◌, arith}
+use Rattle.std.proofs.Common.{[], ◌∷◌, ◌++◌, length, get_or, take, sym, ap, ◌∙◌, arith}
 
 pub push-requires : goal.push-requires
 push-requires c =

@@ -1,4 +1,4 @@
-use Rattle.std.proofs.Common.{◌^◌, ◌≤◌, length, decimal, ap, ◌∙◌, arith}
+use Rattle.std.proofs.Common.{length, decimal, ap, arith}
 use Rattle.sheet.proofs.draft.Draft.push_number.Goals as goal
 use Rattle.sheet.specs.Drafts.{drafted}
 use Rattle.std.proofs.lemmas.Fmt.{length-decimal-le}
