@@ -9,7 +9,7 @@ use Rattle.lines.specs.Laws.{LineLaws}
 use Rattle.lines.specs.declared.row.Row.{Row}
 use Rattle.std.proofs.ByRecursion.{has_append_right, All-weaker}
 use Rattle.std.proofs.lemmas.Bool.{cases_eq}
-use Rattle.std.specs.List.{ContainsAt as Has, AllByRecursion as All}
+use Rattle.std.specs.List.{ContainsAt as Has, AllByRecursion}
 use Rattle.supply.specs.Meaning.{Meaning}
 use native.Mathlib.Nat.{le_of_mul-le-mul_left}
 
@@ -36,7 +36,7 @@ weighed_sum f h (c ∷ cites) =
     let later = weighed_sum f h cites in
     omega (arith, mul-add c.weight (f c.deadline) (h c.deadline))
 
-weighed_more : (f h : ℕ → ℕ) (cites : List Cite) → All (λ cite. f cite.deadline ≤ h cite.deadline) cites → weighed f cites ≤ weighed h cites
+weighed_more : (f h : ℕ → ℕ) (cites : List Cite) → AllByRecursion (λ cite. f cite.deadline ≤ h cite.deadline) cites → weighed f cites ≤ weighed h cites
 unfolding weighed
 weighed_more f h [] all = omega arith
 weighed_more f h (c ∷ cites) all =

@@ -9,7 +9,7 @@ use Rattle.analysis.specs.Watching.{Within, weighed}
 use Rattle.lines.specs.Demand.{AllLawful, no_row, count, demand}
 use Rattle.lines.specs.Rest.{first, every, some, product, deadlines, full_list}
 use Rattle.std.proofs.ByRecursion.{all-has}
-use Rattle.std.specs.List.{ContainsAt as Has, AllByRecursion as All}
+use Rattle.std.specs.List.{ContainsAt as Has, AllByRecursion}
 use Rattle.supply.specs.Bottoms.{whole_lawful}
 use Rattle.supply.specs.Whole.{whole}
 
@@ -29,7 +29,7 @@ fits : Verdict whole two_lines listed None
 unfolding demand
 fits d h = all-has (Within whole two_lines) listed d (omega arith, (omega arith, (omega arith, tt))) h
 
-cited : All (λ cite. Has (full_list close_lines) cite.deadline × (cite.deadline ≡ 25 → ⊥)) cites
+cited : AllByRecursion (λ cite. Has (full_list close_lines) cite.deadline × (cite.deadline ≡ 25 → ⊥)) cites
 unfolding first every some product deadlines
 cited = (((6, lit≤ tt, λ e. refl), λ e. omega arith), (((1, lit≤ tt, λ e. refl), λ e. omega arith), tt))
 

@@ -13,14 +13,14 @@ use Rattle.run.specs.declared.job.Job.{Job}
 use Rattle.std.proofs.ByRecursion.{All-append, All-get_or, All-weaker}
 use Rattle.std.proofs.lemmas.List.Sums.{sum_by-cons, sum_by-append}
 use Rattle.std.proofs.lemmas.Bool.{cases_lt, cases_Bool}
-use Rattle.std.specs.List.{AllByRecursion as All}
+use Rattle.std.specs.List.{AllByRecursion}
 
 -- any two of a list, the earlier first
 Pairs : (Job → Job → Type 0) → List Job → Type 0
 Pairs R [] = Unit {0}
-Pairs R (x ∷ xs) = All (R x) xs × Pairs R xs
+Pairs R (x ∷ xs) = AllByRecursion (R x) xs × Pairs R xs
 
-pairs_append : (R : Job → Job → Type 0) (xs ys : List Job) → Pairs R xs → Pairs R ys → All (λ x. All (R x) ys) xs → Pairs R (xs ++ ys)
+pairs_append : (R : Job → Job → Type 0) (xs ys : List Job) → Pairs R xs → Pairs R ys → AllByRecursion (λ x. AllByRecursion (R x) ys) xs → Pairs R (xs ++ ys)
 unfolding Pairs
 pairs_append R [] ys h k across = k
 pairs_append R (x ∷ xs) ys h k across = (All-append (R x) xs ys h.0 across.0, pairs_append R xs ys h.1 k across.1)
@@ -64,7 +64,7 @@ module _ (all : List Row) (t r : ℕ) where
   abbrev From : ℕ → Job → Type 0
   From number job = Comes all t job × (number ≤ job.line) × (job.release ≡ r)
 
-  from_next : (number : ℕ) (jobs : List Job) → All (From (suc number)) jobs → All (From number) jobs
+  from_next : (number : ℕ) (jobs : List Job) → AllByRecursion (From (suc number)) jobs → AllByRecursion (From number) jobs
   from_next number jobs h = All-weaker (From (suc number)) (From number) (λ job k. (k.0, omega (arith, k.1), k.2)) jobs h
 
   first_comes : (number : ℕ) (row : Row) → number < length all → get_or all number no_row ≡ row → releases t row r ≡ true → From number (record { line = number; release = r; cost = row.cost })
@@ -75,17 +75,17 @@ module _ (all : List Row) (t r : ℕ) where
       let early : r + row.deadline ≤ t = grind arith in
       (record { there = there; rhythm = ap (λ x. r % x) period ∙ turn; in_time = omega arith; full = sym (ap (λ x. x.cost) is) }, omega arith, refl)
 
-  first_apart : (number : ℕ) (row : Row) (jobs : List Job) → All (From (suc number)) jobs → All (Apart all (record { line = number; release = r; cost = row.cost })) jobs
+  first_apart : (number : ℕ) (row : Row) (jobs : List Job) → AllByRecursion (From (suc number)) jobs → AllByRecursion (Apart all (record { line = number; release = r; cost = row.cost })) jobs
   first_apart number row jobs h =
       All-weaker (From (suc number)) (Apart all (record { line = number; release = r; cost = row.cost })) (λ job k same. absurd (omega (arith, k.1))) jobs h
 
-  released_comes : (number : ℕ) (rows : List Row) → Last all number rows → All (From number) (released_at number rows t r)
+  released_comes : (number : ℕ) (rows : List Row) → Last all number rows → AllByRecursion (From number) (released_at number rows t r)
   unfolding released_at
   released_comes number [] h = tt
   released_comes number (row ∷ rows) h =
       by_test (releases t row r) refl (from_next number (released_at (suc number) rows t r) (released_comes (suc number) rows (last_rest all number row rows h)))
     where
-      by_test : (b : Bool) → releases t row r ≡ b → All (From number) (released_at (suc number) rows t r) → All (From number) (cond b (record { line = number; release = r; cost = row.cost } ∷ released_at (suc number) rows t r) (released_at (suc number) rows t r))
+      by_test : (b : Bool) → releases t row r ≡ b → AllByRecursion (From number) (released_at (suc number) rows t r) → AllByRecursion (From number) (cond b (record { line = number; release = r; cost = row.cost } ∷ released_at (suc number) rows t r) (released_at (suc number) rows t r))
       by_test true e later = (first_comes number row (omega (arith, h.0)) (last_here all number row rows h) e, later)
       by_test false e later = later
 
@@ -95,7 +95,7 @@ module _ (all : List Row) (t r : ℕ) where
   released_pairs number (row ∷ rows) h =
       by_test (releases t row r) (released_comes (suc number) rows (last_rest all number row rows h)) (released_pairs (suc number) rows (last_rest all number row rows h))
     where
-      by_test : (b : Bool) → All (From (suc number)) (released_at (suc number) rows t r) → Pairs (Apart all) (released_at (suc number) rows t r) → Pairs (Apart all) (cond b (record { line = number; release = r; cost = row.cost } ∷ released_at (suc number) rows t r) (released_at (suc number) rows t r))
+      by_test : (b : Bool) → AllByRecursion (From (suc number)) (released_at (suc number) rows t r) → Pairs (Apart all) (released_at (suc number) rows t r) → Pairs (Apart all) (cond b (record { line = number; release = r; cost = row.cost } ∷ released_at (suc number) rows t r) (released_at (suc number) rows t r))
       by_test true come later = (first_apart number row (released_at (suc number) rows t r) come, later)
       by_test false come later = later
 
@@ -115,7 +115,7 @@ module _ (rows : List Row) (t : ℕ) (ok : AllLawful rows) where
   abbrev Before : ℕ → Job → Type 0
   Before n job = Comes rows t job × (job.release < n)
 
-  before_comes : (n : ℕ) → All (Before n) (released_before rows t n)
+  before_comes : (n : ℕ) → AllByRecursion (Before n) (released_before rows t n)
   unfolding released_before
   before_comes zero = tt
   before_comes (suc n) =
@@ -133,7 +133,7 @@ module _ (rows : List Row) (t : ℕ) (ok : AllLawful rows) where
   before_pairs zero = tt
   before_pairs (suc n) =
       let now = released_comes rows t n 0 rows (last_all rows) in
-      pairs_append (Apart rows) (released_before rows t n) (released_at 0 rows t n) (before_pairs n) (released_pairs rows t n 0 rows (last_all rows)) (All-weaker (Before n) (λ j. All (Apart rows j) (released_at 0 rows t n)) (λ j h. All-weaker (From rows t n 0) (Apart rows j) (λ k i. earlier_apart n j k h i) (released_at 0 rows t n) now) (released_before rows t n) (before_comes n))
+      pairs_append (Apart rows) (released_before rows t n) (released_at 0 rows t n) (before_pairs n) (released_pairs rows t n 0 rows (last_all rows)) (All-weaker (Before n) (λ j. AllByRecursion (Apart rows j) (released_at 0 rows t n)) (λ j h. All-weaker (From rows t n 0) (Apart rows j) (λ k i. earlier_apart n j k h i) (released_at 0 rows t n) now) (released_before rows t n) (before_comes n))
 
   comes_allowed : (job : Job) → Comes rows t job → Allowed rows job
   comes_allowed job h = let lawful = ok job.line h.there in record { there = h.there; some = omega (arith, h.full, lawful.3); within = omega (arith, h.full) }
@@ -232,7 +232,7 @@ module _ (rows : List Row) (t : ℕ) (ok : AllLawful rows) where
       let below = before_cost n in
       omega (arith, sum_by-append (λ job. job.cost) (released_before rows t n) (released_at 0 rows t n), released_cost rows t n 0 rows, so_far_all t n rows ok)
 
-  inside_load : (jobs : List Job) → All (Comes rows t) jobs → load (timed_list rows jobs) 0 t ≡ sum_by (λ job. job.cost) jobs
+  inside_load : (jobs : List Job) → AllByRecursion (Comes rows t) jobs → load (timed_list rows jobs) 0 t ≡ sum_by (λ job. job.cost) jobs
   unfolding load
   inside_load [] h = refl
   inside_load (job ∷ jobs) h =

@@ -6,7 +6,7 @@ use Rattle.lines.specs.Changes.{with_cost, without}
 use Rattle.lines.specs.Rest.{full_list}
 use Rattle.lines.specs.declared.row.Row.{Row}
 use Rattle.refusal.specs.Answers.{refusal_of}
-use Rattle.std.specs.List.{remove, ContainsAt as Has, AllByRecursion as All}
+use Rattle.std.specs.List.{remove, ContainsAt as Has, AllByRecursion}
 use Rattle.supply.specs.Meaning.{Meaning}
 
 -- The four calls that change a roster.
@@ -20,7 +20,7 @@ pub data Call : Type 0 where
 pub record Accepted (m : Meaning) (rows : List Row) (watched : List ℕ) (d divisor : ℕ) (cites : List Cite) : Type 0 where
   pub divisor_in_range : (1 ≤ divisor) × (divisor ≤ 1000)
   pub cites_in_range : (1 ≤ length cites) × (length cites ≤ 8)
-  pub weights_in_range : All (λ cite. (1 ≤ cite.weight) × (cite.weight ≤ 1000)) cites
+  pub weights_in_range : AllByRecursion (λ cite. (1 ≤ cite.weight) × (cite.weight ≤ 1000)) cites
   pub is_watched : Has watched d
   pub certifies : Certifies m rows watched d divisor cites
 

@@ -3,7 +3,7 @@ use Rattle.std.specs.Prelude.{ℕ, ◌+◌, ◌*◌, ◌<◌, ◌≤◌, List, [
 use Rattle.lines.specs.Changes.{Alike}
 use Rattle.lines.specs.Demand.{AllLawful, no_row, count, demand}
 use Rattle.lines.specs.declared.row.Row.{Row}
-use Rattle.std.specs.List.{ContainsAt as Has, AllByRecursion as All}
+use Rattle.std.specs.List.{ContainsAt as Has, AllByRecursion}
 use Rattle.supply.specs.Meaning.{Meaning}
 
 -- At t the lines ask for no more than the supply is sure to give.
@@ -29,6 +29,6 @@ weighed figure (cite ∷ cites) = cite.weight * figure cite.deadline + weighed f
 -- and they ask of the supply no more than d does, each side times the divisor or the weights.
 pub record Certifies (m : Meaning) (rows : List Row) (watched : List ℕ) (d divisor : ℕ) (cites : List Cite) : Type 0 where
   pub divides : 1 ≤ divisor
-  pub cited : All (λ cite. Has watched cite.deadline × (cite.deadline ≢ d)) cites
+  pub cited : AllByRecursion (λ cite. Has watched cite.deadline × (cite.deadline ≢ d)) cites
   pub counts : (i : ℕ) → i < length rows → divisor * count (slice_index_or rows i no_row) d ≤ weighed (count (slice_index_or rows i no_row)) cites
   pub supply : weighed m.least cites ≤ divisor * m.least d

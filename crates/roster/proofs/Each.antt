@@ -5,17 +5,17 @@ use Rattle.refusal.specs.Answers.{Check, refusal_of}
 use Rattle.roster.specs.Certificate.{each}
 use Rattle.std.proofs.lemmas.List.{at_drop_more, at_drop_all}
 use Rattle.std.proofs.lemmas.Bool.{cond-true, cond-false}
-use Rattle.std.specs.List.{AllByRecursion as All}
+use Rattle.std.specs.List.{AllByRecursion}
 
 module _ {X : Type 0} (one : ℕ → X → Check) (bad : X → Bool) (same : (place : ℕ) (x : X) → (one place x).fails ≡ bad x) where
-  pub each_passed : (first : ℕ) (xs : List X) → refusal_of (each one first xs) ≡ None → All (λ x. bad x ≡ false) xs
+  pub each_passed : (first : ℕ) (xs : List X) → refusal_of (each one first xs) ≡ None → AllByRecursion (λ x. bad x ≡ false) xs
   unfolding each
   each_passed first [] e = tt
   each_passed first (x ∷ xs) e =
       let here = passed_first (one first x) (each one (suc first) xs) e in
       (sym (same first x) ∙ here.0, each_passed (suc first) xs here.1)
 
-  pub each_passes : (first : ℕ) (xs : List X) → All (λ x. bad x ≡ false) xs → refusal_of (each one first xs) ≡ None
+  pub each_passes : (first : ℕ) (xs : List X) → AllByRecursion (λ x. bad x ≡ false) xs → refusal_of (each one first xs) ≡ None
   unfolding each
   each_passes first [] all = refl
   each_passes first (x ∷ xs) all = pass_first (one first x) (each one (suc first) xs) (same first x ∙ all.0) (each_passes (suc first) xs all.1)

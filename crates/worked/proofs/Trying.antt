@@ -1,7 +1,7 @@
 -- Tests of every number below a bound, and of every member of a list: what they give where they pass.
 use Rattle.std.proofs.Common.{◌≡◌, ℕ, zero, suc, ◌<◌, Bool, true, not, ◌&&◌, ◌||◌, List, [], ◌∷◌, sym, subst, ⊎_elim, arith}
 use Rattle.std.proofs.lemmas.Bool.{and_parts, cases_eq}
-use Rattle.std.specs.List.{AllByRecursion as All}
+use Rattle.std.specs.List.{AllByRecursion}
 
 -- a test behind one that passes
 pub where_passed : (p b : Bool) → p ≡ true → (not p || b) ≡ true → b ≡ true
@@ -24,7 +24,7 @@ unfoldable pub members : (ℕ → Bool) → List ℕ → Bool
 members test [] = true
 members test (x ∷ xs) = test x && members test xs
 
-pub members_each : (test : ℕ → Bool) (xs : List ℕ) → members test xs ≡ true → All (λ x. test x ≡ true) xs
+pub members_each : (test : ℕ → Bool) (xs : List ℕ) → members test xs ≡ true → AllByRecursion (λ x. test x ≡ true) xs
 unfolding members
 members_each test [] e = tt
 members_each test (x ∷ xs) e = let parts = and_parts (test x) (members test xs) e in (parts.0, members_each test xs parts.1)
