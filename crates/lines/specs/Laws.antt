@@ -1,5 +1,5 @@
 -- What is proved of counts, rest points and deadlines, as laws. Assumes nothing.
-use Rattle.std.specs.Prelude.{◌≡◌, ℕ, ◌+◌, ◌-◌, ◌*◌, ◌%◌, ◌<◌, ◌≤◌, true, List, length, get_or, slice_index, slice_index_or}
+use Rattle.std.specs.Prelude.{◌≡◌, ℕ, ◌+◌, ◌-◌, ◌*◌, ◌%◌, ◌<◌, ◌≤◌, true, List, length, slice_index, slice_index_or}
 use Rattle.lines.specs.Demand.{no_row, count, work}
 use Rattle.lines.specs.Rest.{every, resting, due, hyperperiod, first_rest, deadlines, full_list}
 use Rattle.lines.specs.declared.row.Row.{Row}
@@ -24,8 +24,8 @@ pub record LineLaws (row : Row) : Type 0 where
 -- The hyperperiod is the least common multiple of the periods, and a first rest point is there, no later.
 pub record RestLaws (rows : List Row) : Type 0 where
   pub hyperperiod_positive : 1 ≤ hyperperiod rows
-  pub hyperperiod_multiple : (i : ℕ) → i < length rows → hyperperiod rows % (get_or rows i no_row).period ≡ 0
-  pub hyperperiod_least : (m : ℕ) → 1 ≤ m → ((i : ℕ) → i < length rows → m % (get_or rows i no_row).period ≡ 0) → hyperperiod rows ≤ m
+  pub hyperperiod_multiple : (i : ℕ) → i < length rows → hyperperiod rows % (slice_index_or rows i no_row).period ≡ 0
+  pub hyperperiod_least : (m : ℕ) → 1 ≤ m → ((i : ℕ) → i < length rows → m % (slice_index_or rows i no_row).period ≡ 0) → hyperperiod rows ≤ m
   pub rest_positive : 1 ≤ first_rest rows
   pub rest_rests : every (resting (first_rest rows)) rows ≡ true
   pub rest_first : (t : ℕ) → 1 ≤ t → every (resting t) rows ≡ true → first_rest rows ≤ t

@@ -7,8 +7,8 @@ use Rattle.run.specs.Holding.{Keeping, Cursor, Admits}
 use Rattle.run.specs.declared.ready.Ready.{Ready}
 use Rattle.std.proofs.lemmas.Bool.{cases_lt}
 
-module _ (jobs : List Job) (line_at_lem : ℕ → ℕ) (keeping : Keeping jobs line_at_lem) (s : ℕ) where
-  pub admits_none : (n : ℕ) (table : List Ready) → Admits jobs line_at_lem s n table n table
+module _ (jobs : List Job) (line_by_place : ℕ → ℕ) (keeping : Keeping jobs line_by_place) (s : ℕ) where
+  pub admits_none : (n : ℕ) (table : List Ready) → Admits jobs line_by_place s n table n table
   admits_none n table σ settled holds = holds
 
   -- one job more that is released by s
@@ -32,13 +32,13 @@ module _ (jobs : List Job) (line_at_lem : ℕ → ℕ) (keeping : Keeping jobs l
         ahead = λ k l there. omega (arith, later (omega arith), keeping.ordered n k l there);
       }
 
-  pub admits_more : (n m : ℕ) (table after : List Ready) (ready : Ready) → length after ≡ 8 → m < length jobs → Cursor jobs s s m → (job jobs m).release ≤ s → ready.place ≡ m → ready.deadline ≡ (job jobs m).deadline → ready.left ≡ (job jobs m).cost → Admits jobs line_at_lem s n table m after → Admits jobs line_at_lem s n table (suc m) (set after (line_at_lem m) ready)
+  pub admits_more : (n m : ℕ) (table after : List Ready) (ready : Ready) → length after ≡ 8 → m < length jobs → Cursor jobs s s m → (job jobs m).release ≤ s → ready.place ≡ m → ready.deadline ≡ (job jobs m).deadline → ready.left ≡ (job jobs m).cost → Admits jobs line_by_place s n table m after → Admits jobs line_by_place s n table (suc m) (set after (line_by_place m) ready)
   admits_more n m table after ready room there cursor released place deadline left admits σ settled holds =
-      holds_more jobs line_at_lem σ s after m ready (admits σ settled holds) (omega (arith, keeping.lined m there))
+      holds_more jobs line_by_place σ s after m ready (admits σ settled holds) (omega (arith, keeping.lined m there))
       (record { place = place; deadline = deadline; left = omega (arith, settled.unserved m there (cursor.ahead m (omega arith) there)) })
       free
     where
-      free : (k : ℕ) → k < m → line_at_lem k ≡ line_at_lem m → Unfinished jobs σ k s → ⊥
+      free : (k : ℕ) → k < m → line_by_place k ≡ line_by_place m → Unfinished jobs σ k s → ⊥
       free k l same un =
           let due = keeping.apart k m l there same in
           omega (arith, un, settled.finished k (omega arith) (omega arith))

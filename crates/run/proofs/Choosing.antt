@@ -11,9 +11,9 @@ use Rattle.run.specs.Ready.{of_line, Waits, Foremost}
 use Rattle.run.specs.declared.ready.Ready.{Ready}
 use Rattle.std.proofs.lemmas.Bool.{cases_lt}
 
-module _ (jobs : List Job) (line_at_lem : ℕ → ℕ) (σ : Schedule) (s n : ℕ) (table : List Ready) (holds : Holds jobs line_at_lem σ s n table) where
+module _ (jobs : List Job) (line_by_place : ℕ → ℕ) (σ : Schedule) (s n : ℕ) (table : List Ready) (holds : Holds jobs line_by_place σ s n table) where
   -- an unfinished job among the first n waits at its line
-  pub unfinished_waits : (k : ℕ) → k < n → Unfinished jobs σ k s → Waits table (line_at_lem k)
+  pub unfinished_waits : (k : ℕ) → k < n → Unfinished jobs σ k s → Waits table (line_by_place k)
   unfinished_waits k l un = omega (arith, un, (holds.all k l un).left)
 
   -- a job that waits is unfinished
@@ -41,7 +41,7 @@ module _ (jobs : List Job) (line_at_lem : ℕ → ℕ) (σ : Schedule) (s n : �
 
     -- where none waits, none is pending
     pub none_pending : ((i : ℕ) → Waits table i → ⊥) → (k : ℕ) → Pending jobs σ s k → ⊥
-    none_pending none k p = none (line_at_lem k) (unfinished_waits k (pending_in k p) p.unfinished)
+    none_pending none k p = none (line_by_place k) (unfinished_waits k (pending_in k p) p.unfinished)
 
     -- the foremost job is first
     pub foremost_first : (i : ℕ) → Foremost table i → First jobs σ s (of_line table i).place
@@ -58,10 +58,10 @@ module _ (jobs : List Job) (line_at_lem : ℕ → ℕ) (σ : Schedule) (s n : �
             let due = stands.deadline in
             let at = stands.place in
             let own = mine.deadline in
-            let leads = foremost.leads (line_at_lem k) waits in
+            let leads = foremost.leads (line_by_place k) waits in
             record { earlier = omega (arith, leads.earlier); lower = λ same. omega (arith, leads.lower (own ∙ same ∙ sym due)) }
 
-module _ (g : ℕ → ℕ) (jobs : List Job) (line_at_lem : ℕ → ℕ) (σ : Schedule) (s n : ℕ) (table : List Ready) (keeping : Keeping jobs line_at_lem) (holds : Holds jobs line_at_lem σ (suc s) n table) (cursor : Cursor jobs s (suc s) n) where
+module _ (g : ℕ → ℕ) (jobs : List Job) (line_by_place : ℕ → ℕ) (σ : Schedule) (s n : ℕ) (table : List Ready) (keeping : Keeping jobs line_by_place) (holds : Holds jobs line_by_place σ (suc s) n table) (cursor : Cursor jobs s (suc s) n) where
   -- an unfinished job that is due at the next instant is in the table
   due_in : (k : ℕ) → k < length jobs → (job jobs k).deadline ≡ suc s → k < n
   due_in k there due =
@@ -74,21 +74,21 @@ module _ (g : ℕ → ℕ) (jobs : List Job) (line_at_lem : ℕ → ℕ) (σ : S
   none_overdue later k there due =
       let l = due_in k there due in
       let not : Unfinished jobs σ k (suc s) → ⊥ = λ un.
-      omega (arith, (holds.all k l un).deadline, later (line_at_lem k) (unfinished_waits jobs line_at_lem σ (suc s) n table holds k l un)) in
+      omega (arith, (holds.all k l un).deadline, later (line_by_place k) (unfinished_waits jobs line_by_place σ (suc s) n table holds k l un)) in
       omega arith
 
   -- the foremost job, where it is overdue, is the first miss
   pub overdue_missed : (b i : ℕ) → Underway g jobs σ (suc s) → Foremost table i → (of_line table i).deadline ≤ suc s → Runs g jobs b σ (missed (of_line table i).place (suc s))
   overdue_missed b i run foremost overdue = underway_missed g jobs σ b (of_line table i).place (suc s) run there due un lower
     where
-      right : Right jobs line_at_lem σ (suc s) n i (of_line table i)
+      right : Right jobs line_by_place σ (suc s) n i (of_line table i)
       right = holds.only i foremost.waits
 
       there : (of_line table i).place < length jobs
       there = omega (arith, right.there, cursor.within)
 
       un : Unfinished jobs σ (of_line table i).place (suc s)
-      un = waits_unfinished jobs line_at_lem σ (suc s) n table holds i foremost.waits
+      un = waits_unfinished jobs line_by_place σ (suc s) n table holds i foremost.waits
 
       due : (job jobs (of_line table i).place).deadline ≡ suc s
       due = late_due_now jobs σ (suc s) (of_line table i).place run.on_time (record { there = there; due = omega (arith, right.stands.deadline); unfinished = un })
@@ -98,6 +98,6 @@ module _ (g : ℕ → ℕ) (jobs : List Job) (line_at_lem : ℕ → ℕ) (σ : S
           let here = due_in j (omega (arith, there)) at in
           let finished : Unfinished jobs σ j (suc s) → ⊥ = λ late.
           let stands = holds.all j here late in
-          let leads = foremost.leads (line_at_lem j) (unfinished_waits jobs line_at_lem σ (suc s) n table holds j here late) in
+          let leads = foremost.leads (line_by_place j) (unfinished_waits jobs line_by_place σ (suc s) n table holds j here late) in
           omega (arith, stands.place, leads.lower (right.stands.deadline ∙ due ∙ sym at ∙ sym stands.deadline)) in
           omega arith

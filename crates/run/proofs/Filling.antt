@@ -78,33 +78,33 @@ pub count_not_given : (m : Meaning) (phase s before after : ℕ) → before ≡ 
 count_not_given m phase s before after was is stays given = let next = ap (given_in m phase) (add-one s) in omega arith
 
 -- A run has filled the slots below s: it is underway, no job is late at s, the table holds the jobs released before s, and the entries are right.
-pub record Filled (g : ℕ → ℕ) (jobs : List Job) (line_at_lem : ℕ → ℕ) (slots : List ℕ) (s n : ℕ) (table : List Ready) : Type 0 where
+pub record Filled (g : ℕ → ℕ) (jobs : List Job) (line_by_place : ℕ → ℕ) (slots : List ℕ) (s n : ℕ) (table : List Ready) : Type 0 where
   pub underway : Underway g jobs (schedule slots) s
   pub done : DoneAt jobs (schedule slots) s
   pub cursor : Cursor jobs s s n
-  pub holds : Holds jobs line_at_lem (schedule slots) s n table
+  pub holds : Holds jobs line_by_place (schedule slots) s n table
   pub entries : Entries g slots s
 
 -- Slot s is filled too, and it is not looked yet whether a job is late at its end.
-pub record Served (g : ℕ → ℕ) (jobs : List Job) (line_at_lem : ℕ → ℕ) (slots : List ℕ) (s n : ℕ) (table : List Ready) : Type 0 where
+pub record Served (g : ℕ → ℕ) (jobs : List Job) (line_by_place : ℕ → ℕ) (slots : List ℕ) (s n : ℕ) (table : List Ready) : Type 0 where
   pub underway : Underway g jobs (schedule slots) (suc s)
   pub cursor : Cursor jobs s (suc s) n
-  pub holds : Holds jobs line_at_lem (schedule slots) (suc s) n table
+  pub holds : Holds jobs line_by_place (schedule slots) (suc s) n table
   pub entries : Entries g slots (suc s)
 
-module _ (g : ℕ → ℕ) (jobs : List Job) (line_at_lem : ℕ → ℕ) (keeping : Keeping jobs line_at_lem) where
+module _ (g : ℕ → ℕ) (jobs : List Job) (line_by_place : ℕ → ℕ) (keeping : Keeping jobs line_by_place) where
   -- the start, with a slot list that is clear
-  pub filled_none : (slots : List ℕ) (table : List Ready) → ((s : ℕ) → entry slots s ≡ 65535) → ((i : ℕ) → Waits table i → ⊥) → Filled g jobs line_at_lem slots 0 0 table
+  pub filled_none : (slots : List ℕ) (table : List Ready) → ((s : ℕ) → entry slots s ≡ 65535) → ((i : ℕ) → Waits table i → ⊥) → Filled g jobs line_by_place slots 0 0 table
   filled_none slots table clear none =
       record {
         underway = underway_none g jobs (schedule slots) (λ s l. ap turn (clear s));
         done = λ k there due. absurd (omega (arith, keeping.lasting k there));
         cursor = record { within = omega arith; released = λ k l. absurd (omega arith); ahead = λ k l there. omega arith };
-        holds = holds_none jobs line_at_lem (schedule slots) 0 table none;
+        holds = holds_none jobs line_by_place (schedule slots) 0 table none;
         entries = record { not_given = λ s l no_slot. absurd (omega arith); idle_given = λ s l given e. absurd (omega arith); running = λ s k l e. absurd (omega arith); behind = λ s l. clear s };
       }
 
-  module _ (slots : List ℕ) (s n : ℕ) (table : List Ready) (filled : Filled g jobs line_at_lem slots s n table) where
+  module _ (slots : List ℕ) (s n : ℕ) (table : List Ready) (filled : Filled g jobs line_by_place slots s n table) where
     -- all is settled at the instant
     pub filled_settled : Settled jobs (schedule slots) s
     filled_settled =
@@ -120,19 +120,19 @@ module _ (g : ℕ → ℕ) (jobs : List Job) (line_at_lem : ℕ → ℕ) (keepin
             omega arith
 
     -- what was admitted, by this run's schedule
-    pub filled_admitted : (m : ℕ) (after : List Ready) → Admits jobs line_at_lem s n table m after → Holds jobs line_at_lem (schedule slots) s m after
+    pub filled_admitted : (m : ℕ) (after : List Ready) → Admits jobs line_by_place s n table m after → Holds jobs line_by_place (schedule slots) s m after
     filled_admitted m after admits = admits (schedule slots) filled_settled filled.holds
 
-    module _ (m : ℕ) (admitted : List Ready) (cursor : Cursor jobs s (suc s) m) (holds : Holds jobs line_at_lem (schedule slots) s m admitted) where
+    module _ (m : ℕ) (admitted : List Ready) (cursor : Cursor jobs s (suc s) m) (holds : Holds jobs line_by_place (schedule slots) s m admitted) where
       -- a slot that is not given
-      pub served_not_given : (Given g s → ⊥) → Served g jobs line_at_lem slots s m admitted
+      pub served_not_given : (Given g s → ⊥) → Served g jobs line_by_place slots s m admitted
       served_not_given not =
           let quiet : schedule slots s ≡ idle = filled.underway.stops s (omega arith) in
           let agree : Agree (schedule slots) (schedule slots) s = λ i l. refl in
           record {
             underway = underway_next g jobs (schedule slots) (schedule slots) s filled.underway filled.done agree (λ i l. filled.underway.stops i (omega arith)) (law_not_given g jobs (schedule slots) s not quiet);
             cursor = cursor;
-            holds = holds_idle jobs line_at_lem (schedule slots) (schedule slots) s agree admitted m quiet holds;
+            holds = holds_idle jobs line_by_place (schedule slots) (schedule slots) s agree admitted m quiet holds;
             entries = entries_left g slots s filled.entries not;
           }
 
@@ -143,7 +143,7 @@ module _ (g : ℕ → ℕ) (jobs : List Job) (line_at_lem : ℕ → ℕ) (keepin
 
       module _ (there : s < length slots) (given : Given g s) where
         -- a given slot, by the law at what is written
-        served_by : (x : ℕ) (after : List Ready) → Law g jobs (schedule (set slots s x)) s → Holds jobs line_at_lem (schedule (set slots s x)) (suc s) m after → (turn x ≡ idle → x ≡ 0) → Served g jobs line_at_lem (set slots s x) s m after
+        served_by : (x : ℕ) (after : List Ready) → Law g jobs (schedule (set slots s x)) s → Holds jobs line_by_place (schedule (set slots s x)) (suc s) m after → (turn x ≡ idle → x ≡ 0) → Served g jobs line_by_place (set slots s x) s m after
         served_by x after law held right =
             record {
               underway = underway_next g jobs (schedule slots) (schedule (set slots s x)) s filled.underway filled.done (written_agrees turn 65535 slots s x) (written_stops turn 65535 slots s x filled.underway.stops) law;
@@ -153,32 +153,32 @@ module _ (g : ℕ → ℕ) (jobs : List Job) (line_at_lem : ℕ → ℕ) (keepin
             }
 
         -- a given slot that serves the foremost job, or none where none waits
-        pub served_given : (o : Option ℕ) (after : List Ready) → Serves admitted o after → length jobs ≤ 2048 → Served g jobs line_at_lem (set slots s (entry_for o)) s m after
+        pub served_given : (o : Option ℕ) (after : List Ready) → Serves admitted o after → length jobs ≤ 2048 → Served g jobs line_by_place (set slots s (entry_for o)) s m after
         served_given None after (none, same) few =
             let agree = written_agrees turn 65535 slots s 0 in
             let quiet = written turn 65535 slots s 0 there in
-            let law = next_idle g jobs (schedule slots) (schedule (set slots s 0)) s agree quiet (none_pending jobs line_at_lem (schedule slots) s m admitted holds cursor none) in
+            let law = next_idle g jobs (schedule slots) (schedule (set slots s 0)) s agree quiet (none_pending jobs line_by_place (schedule slots) s m admitted holds cursor none) in
             served_by 0 after law
-            (subst (Holds jobs line_at_lem (schedule (set slots s 0)) (suc s) m) (sym same) (holds_idle jobs line_at_lem (schedule slots) (schedule (set slots s 0)) s agree admitted m quiet holds))
+            (subst (Holds jobs line_by_place (schedule (set slots s 0)) (suc s) m) (sym same) (holds_idle jobs line_by_place (schedule slots) (schedule (set slots s 0)) s agree admitted m quiet holds))
             (λ e. refl)
         served_given (Some place) after (i, foremost, is, same) few =
             let right = holds.only i foremost.waits in
             let small : place < 65534 = omega (arith, right.there, cursor.within) in
             let agree = written_agrees turn 65535 slots s (suc place) in
             let serving : schedule (set slots s (suc place)) s ≡ serves (of_line admitted i).place = written turn 65535 slots s (suc place) there ∙ turn_place place small ∙ ap serves is in
-            let law = next_serves g jobs (schedule slots) (schedule (set slots s (suc place))) s agree (of_line admitted i).place given serving (foremost_first jobs line_at_lem (schedule slots) s m admitted holds cursor i foremost) in
+            let law = next_serves g jobs (schedule slots) (schedule (set slots s (suc place))) s agree (of_line admitted i).place given serving (foremost_first jobs line_by_place (schedule slots) s m admitted holds cursor i foremost) in
             served_by (suc place) after law
-            (subst (Holds jobs line_at_lem (schedule (set slots s (suc place))) (suc s) m) (sym same) (holds_served jobs line_at_lem (schedule slots) (schedule (set slots s (suc place))) s agree admitted m i foremost.waits serving holds))
+            (subst (Holds jobs line_by_place (schedule (set slots s (suc place))) (suc s) m) (sym same) (holds_served jobs line_by_place (schedule slots) (schedule (set slots s (suc place))) s agree admitted m i foremost.waits serving holds))
             (given_idle (Some place) small)
 
-  module _ (slots : List ℕ) (s n : ℕ) (table : List Ready) (served : Served g jobs line_at_lem slots s n table) where
+  module _ (slots : List ℕ) (s n : ℕ) (table : List Ready) (served : Served g jobs line_by_place slots s n table) where
     -- the run goes on where all that wait are due later
-    pub filled_more : ((i : ℕ) → Waits table i → suc s < (of_line table i).deadline) → Filled g jobs line_at_lem slots (suc s) n table
+    pub filled_more : ((i : ℕ) → Waits table i → suc s < (of_line table i).deadline) → Filled g jobs line_by_place slots (suc s) n table
     filled_more later =
         let cursor = served.cursor in
         record {
           underway = served.underway;
-          done = none_overdue g jobs line_at_lem (schedule slots) s n table keeping served.holds cursor later;
+          done = none_overdue g jobs line_by_place (schedule slots) s n table keeping served.holds cursor later;
           cursor = record { within = cursor.within; released = λ k l. omega (arith, cursor.released k l); ahead = cursor.ahead };
           holds = served.holds;
           entries = served.entries;
@@ -187,8 +187,8 @@ module _ (g : ℕ → ℕ) (jobs : List Job) (line_at_lem : ℕ → ℕ) (keepin
     -- and ends at the foremost job where that is overdue
     pub filled_missed : (b i place : ℕ) → Foremost table i → (of_line table i).deadline ≤ suc s → place ≡ (of_line table i).place → Runs g jobs b (schedule slots) (missed place (suc s))
     filled_missed b i place foremost overdue is =
-        subst (λ k. Runs g jobs b (schedule slots) (missed k (suc s))) (sym is) (overdue_missed g jobs line_at_lem (schedule slots) s n table keeping served.holds served.cursor b i served.underway foremost overdue)
+        subst (λ k. Runs g jobs b (schedule slots) (missed k (suc s))) (sym is) (overdue_missed g jobs line_by_place (schedule slots) s n table keeping served.holds served.cursor b i served.underway foremost overdue)
 
   -- the end, with every deadline met
-  pub filled_met : (slots : List ℕ) (b n : ℕ) (table : List Ready) → DueBy jobs b → Filled g jobs line_at_lem slots b n table → Runs g jobs b (schedule slots) met
+  pub filled_met : (slots : List ℕ) (b n : ℕ) (table : List Ready) → DueBy jobs b → Filled g jobs line_by_place slots b n table → Runs g jobs b (schedule slots) met
   filled_met slots b n table due filled = underway_met g jobs (schedule slots) b due filled.underway filled.done

@@ -1,4 +1,5 @@
 -- The laws of the supplies that an office can name, case by case.
+-- Lemmas: they stand in specs/ since the laws of an `impl` cite them, and nobody has to believe them.
 use Rattle.supply.specs.Piles.{share_lawful}
 use Rattle.supply.specs.Rows.{repeating_lawful}
 use Rattle.supply.specs.Meaning.{Lawful}

@@ -1,4 +1,5 @@
 -- What follows from the laws of a supply alone: least is bounded, monotone and superadditive.
+-- Lemmas: they stand in specs/ since the laws of an `impl` cite them, and nobody has to believe them.
 use Rattle.std.specs.Prelude.{◌≡◌, ℕ, zero, suc, ◌+◌, ◌<◌, ◌≤◌}
 use Rattle.std.proofs.Common.{ap, arith}
 use native.Mathlib.Nat.{zero-add}

@@ -1,4 +1,5 @@
 -- The pattern of S in F takes at least `sure` of any x slots, and just so many from slot S mod F on: from the laws of rows.
+-- Lemmas: they stand in specs/ since the laws of an `impl` cite them, and nobody has to believe them.
 use Rattle.std.specs.Prelude.{◌≡◌, ℕ, zero, suc, ◌+◌, ◌-◌, ◌*◌, ◌/◌, ◌%◌, ◌<◌, ◌≤◌, min}
 use Rattle.std.proofs.Common.{ap, ◌∙◌, ⊎_elim, mod-lt, mod-eq_of_lt}
 use Rattle.std.proofs.Math.Nat.{mod_self, mod-add-div'}

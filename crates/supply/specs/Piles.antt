@@ -1,4 +1,5 @@
 -- A share over a lawful supply is lawful: from the laws of the supply below and of the pattern.
+-- Lemmas: they stand in specs/ since the laws of an `impl` cite them, and nobody has to believe them.
 use Rattle.std.specs.Prelude.{◌≡◌, ℕ, suc, ◌+◌, ◌-◌, ◌*◌, ◌/◌, ◌%◌, ◌<◌, ◌≤◌, nat_le, refl}
 use Rattle.std.proofs.Common.{sym, ap, ap₂, subst, ◌∙◌, mod-lt, arith}
 use Rattle.std.proofs.Math.Nat.{mod-mod}

@@ -1,4 +1,5 @@
 -- A row that repeats for ever obeys the laws of a supply, and whole turns add the same at every start: from the definitions alone.
+-- Lemmas: they stand in specs/ since the laws of an `impl` cite them, and nobody has to believe them.
 use Rattle.std.specs.Prelude.{◌≡◌, ℕ, zero, suc, ◌+◌, ◌*◌, ◌/◌, ◌%◌, ◌<◌, ◌≤◌, Bool, refl}
 use Rattle.std.proofs.Common.{⊎_elim, sym, ap, ◌∙◌, add-zero, add-suc, add_assoc, zero-add, add_comm, mod-lt, mod-eq_of_lt, add-one, arith}
 use Rattle.std.proofs.Math.Nat.{mod-add-mod, add-mod_right, mod-add-div'}
