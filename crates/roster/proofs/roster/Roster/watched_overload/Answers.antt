@@ -1,13 +1,8 @@
 use Rattle.analysis.specs.Watching.{Within}
 use Rattle.roster.proofs.roster.Roster.watched_overload.Goals as goal
 use Rattle.roster.specs.Working.{rows_in}
-use Rattle.std.proofs.ByRecursion.{has_get_or}
 use Rattle.std.specs.List.{ContainsAt as Has}
-use Rattle.std.proofs.Common.{get_or, sym, subst, arith}
-
-pub returns-then-exceeds : goal.returns-then-exceeds
-returns-then-exceeds g c =
-    (subst (λ ds. Has ds (get_or c.as_slice-list.result.now c.loop-d.d-index 0)) c.as_slice-list.ensures (has_get_or c.as_slice-list.result.now c.loop-d.d-index 0 c.loop-d-test.true), c.if-exceeds.ensures)
+use Rattle.std.proofs.Common.{sym, subst, arith}
 
 pub returns : goal.returns
 returns g c d h =
