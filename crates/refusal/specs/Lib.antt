@@ -1,2 +1,3 @@
 pub mod Answers
 pub mod Numbers
+pub mod Texts

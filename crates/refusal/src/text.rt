@@ -1,8 +1,13 @@
 // What a person reads of a refusal.
+ghost use Rattle.refusal.specs.Texts.{layer_word, refusal_text, sentence};
+ghost use Rattle.std.specs.Prelude.{◌≡◌, Some};
+
 use crate::{Layer, Reason, Refusal};
 use std::fmt;
 
 impl fmt::Display for Layer {
+    ghost output = { λ layer. Some (layer_word layer) };
+
     fn fmt<W: fmt::Write>(&self, f: &mut fmt::Formatter<W>) -> fmt::Result {
         match self {
             Layer::Supply => f.write_str("supply"),
@@ -14,7 +19,9 @@ impl fmt::Display for Layer {
 }
 
 // The words for a reason: what was wrong, and what would be right.
-fn sentence(reason: Reason) -> &'static str {
+fn sentence(reason: Reason) -> &'static str
+    ensures { result.now ≡ sentence reason }
+{
     match reason {
         Reason::LinesFull => "there are 8 lines already, and a roster holds no more",
         Reason::PeriodOutOfRange => "a line's period is from 1 to 1000",
@@ -52,12 +59,16 @@ fn sentence(reason: Reason) -> &'static str {
 }
 
 impl fmt::Display for Reason {
+    ghost output = { λ reason. Some (sentence reason) };
+
     fn fmt<W: fmt::Write>(&self, f: &mut fmt::Formatter<W>) -> fmt::Result {
         f.write_str(sentence(*self))
     }
 }
 
 impl fmt::Display for Refusal {
+    ghost output = { λ refusal. Some (refusal_text refusal) };
+
     fn fmt<W: fmt::Write>(&self, f: &mut fmt::Formatter<W>) -> fmt::Result {
         let number = self.reason.number();
         let layer = self.layer;
