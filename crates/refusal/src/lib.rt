@@ -34,10 +34,6 @@ impl Refusal {
     pub fn at(self, place: u32) -> Refusal
         ensures { result ≡ record { reason = self.reason; layer = self.layer; place = place } }
     {
-        Refusal {
-            reason: self.reason,
-            layer: self.layer,
-            place,
-        }
+        Refusal { place, ..self }
     }
 }
