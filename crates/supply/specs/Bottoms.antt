@@ -1,6 +1,6 @@
 -- The laws of the supplies that an office can name, case by case.
 -- Lemmas: they stand in specs/ since the laws of an `impl` cite them, and nobody has to believe them.
-use Rattle.supply.specs.Piles.{share_lawful}
+use Rattle.supply.specs.Piles.{share_laws}
 use Rattle.supply.specs.Rows.{repeating_lawful}
 use Rattle.supply.specs.Meaning.{Lawful}
 use Rattle.supply.specs.Named.{bottom, named}
@@ -27,4 +27,4 @@ bottom_lawful (b.TheVariants.Timetable t) = repeating_lawful (bits t.length t.wo
 pub named_lawful : (s : Named) → Lawful (named s)
 named_lawful (n.TheVariants.Plain below) = bottom_lawful below
 named_lawful (n.TheVariants.Shared s) =
-    share_lawful (bottom s.below) (bottom_lawful s.below) s.pattern.given s.pattern.of s.pattern.lawful
+    share_laws (bottom_lawful s.below) s.pattern

@@ -10,11 +10,8 @@ use Rattle.supply.specs.Patterns.{sure_attained, sure_fewest, worst_start}
 use Rattle.supply.specs.Rows.{from_window, upto_counting}
 use Rattle.supply.specs.Meaning.{Meaning, Counting, Counts, Windows, Attained, Lawful}
 use Rattle.supply.specs.Row.{from}
+use Rattle.supply.specs.declared.pattern.Pattern.{Pattern}
 use Rattle.supply.specs.Share.{pattern, shared, share, most_phases, LawfulPattern}
-
--- the laws of a supply together
-pub lawful_of : {m : Meaning} → Counts m → Windows m → Attained m → Lawful m
-lawful_of counts windows attained = record { counts = counts; windows = windows; attained = attained }
 
 -- more slots are counted no lower
 counted_up : (f : ℕ → ℕ) → Counting f → (x y : ℕ) → x ≤ y → f x ≤ f y
@@ -88,6 +85,10 @@ module _ (m : Meaning) (law : Lawful m) (S F : ℕ) (lawful : LawfulPattern S F)
 
   pub share_lawful : Lawful (share S F m)
   share_lawful = cond_both (nat_le (m.phases * F) most_phases) (shared S F m) m Lawful (λ few. shared_lawful) (λ many. law)
+
+-- the same, of the pattern that a share holds
+pub share_laws : {m : Meaning} → Lawful m → (p : Pattern) → Lawful (share p.given p.of m)
+share_laws {m} law p = share_lawful m law p.given p.of p.lawful
 
 -- a share has phases of its own where they are few enough
 pub share_piled : (m : Meaning) (S F : ℕ) → m.phases * F ≤ most_phases → share S F m ≡ shared S F m

@@ -1,6 +1,6 @@
 ghost use Rattle.std.specs.Prelude.{◌≡◌, ◌*◌, ◌<◌, ◌≤◌, MatchOption};
 ghost use Rattle.supply.specs.Making.{MakesShare, no_share};
-ghost use Rattle.supply.specs.Piles.{lawful_of, share_lawful};
+ghost use Rattle.supply.specs.Piles.{share_laws};
 ghost use Rattle.supply.specs.Share.{most_phases, share};
 
 use crate::pattern::Pattern;
@@ -69,11 +69,11 @@ impl<B: Supply> Share<B> {
 impl<B: Supply> Supply for Share<B> {
     ghost meaning = { λ s. share s.pattern.given s.pattern.of (B.meaning s.below) };
 
-    ghost counts = { λ s. (share_lawful (B.meaning s.below) (lawful_of (B.counts s.below) (B.windows s.below) (B.attained s.below)) s.pattern.given s.pattern.of s.pattern.lawful).counts };
+    ghost counts = { λ s. (share_laws (B.lawful s.below) s.pattern).counts };
 
-    ghost windows = { λ s. (share_lawful (B.meaning s.below) (lawful_of (B.counts s.below) (B.windows s.below) (B.attained s.below)) s.pattern.given s.pattern.of s.pattern.lawful).windows };
+    ghost windows = { λ s. (share_laws (B.lawful s.below) s.pattern).windows };
 
-    ghost attained = { λ s. (share_lawful (B.meaning s.below) (lawful_of (B.counts s.below) (B.windows s.below) (B.attained s.below)) s.pattern.given s.pattern.of s.pattern.lawful).attained };
+    ghost attained = { λ s. (share_laws (B.lawful s.below) s.pattern).attained };
 
     fn phases(&self) -> u32 {
         let below = self.below.phases();

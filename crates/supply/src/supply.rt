@@ -1,5 +1,5 @@
 ghost use Rattle.std.specs.Prelude.{◌≡◌, ◌%◌};
-ghost use Rattle.supply.specs.Meaning.{Meaning, Counts, Windows, Attained};
+ghost use Rattle.supply.specs.Meaning.{Meaning, Counts, Windows, Attained, Lawful};
 
 // A supply of slots. It may begin in any of its phases, and nobody knows in which.
 // A question is never refused and changes nothing; a phase that is not there stands for its remainder.
@@ -25,4 +25,7 @@ pub trait Supply {
     ghost windows: { (s : Self) → Windows (meaning s) };
 
     ghost attained: { (s : Self) → Attained (meaning s) };
+
+    // The laws together.
+    ghost lawful: { (s : Self) → Lawful (meaning s) } = { λ s. record { counts = counts s; windows = windows s; attained = attained s } };
 }

@@ -4,5 +4,4 @@ use Rattle.supply.proofs.laws.least_laws.Goals as goal
 pub returns : goal.returns
 returns g c =
     let s = c.args.supply.now in
-    let met = g.met.S.Supply in
-    least_laws (g.S.Supply.meaning s) (record { counts = met.counts s; windows = met.windows s; attained = met.attained s })
+    least_laws (g.S.Supply.meaning s) (g.met.S.Supply.lawful s)
