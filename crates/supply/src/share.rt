@@ -8,7 +8,7 @@ use crate::supply::Supply;
 use refusal::{Layer, Reason, Refusal};
 
 // The largest number of phases of a share.
-const MOST_PHASES: u64 = 1_000_000;
+const MOST_PHASES: u32 = 1_000_000;
 
 // A share of the slots that the supply below gives. One that would have too many phases means what the supply below means.
 #[derive(Clone, Copy, PartialEq, Eq, Debug)]
@@ -28,12 +28,7 @@ pub struct ShareRefused<B> {
 fn piled_phases(below: u32, turn: u32) -> Option<u32>
     ensures { MatchOption result (most_phases < below * turn) (λ all. (all ≡ below * turn) × (all ≤ most_phases)) }
 {
-    let all = below as u64 * turn as u64;
-    if all > MOST_PHASES {
-        None
-    } else {
-        Some(all as u32)
-    }
+    below.checked_mul(turn).filter(|all| *all <= MOST_PHASES)
 }
 
 // The refusal of a share over a supply.
@@ -42,11 +37,7 @@ fn unlawful<B>(below: B) -> ShareRefused<B>
     ensures below { result.below ≡ below }
 {
     ShareRefused {
-        refusal: Refusal {
-            reason: Reason::ShareUnlawful,
-            layer: Layer::Supply,
-            place: 0,
-        },
+        refusal: Refusal::by(Layer::Supply, Reason::ShareUnlawful),
         below,
     }
 }
@@ -56,12 +47,12 @@ impl<B: Supply> Share<B> {
     pub fn new(below: B, s: u8, f: u8) -> Result<Share<B>, ShareRefused<B>>
         ensures { MakesShare (B.meaning below) below s f result }
     {
-        if piled_phases(below.phases(), f as u32).is_none() {
-            return Err(unlawful(below));
-        }
-        match Pattern::new(s, f) {
-            Some(pattern) => Ok(Share { below, pattern }),
-            None => Err(unlawful(below)),
+        match (
+            piled_phases(below.phases(), u32::from(f)),
+            Pattern::new(s, f),
+        ) {
+            (Some(_), Some(pattern)) => Ok(Share { below, pattern }),
+            _ => Err(unlawful(below)),
         }
     }
 }

@@ -19,11 +19,7 @@ impl Timetable {
         ensures { MakesTimetable length word result }
     {
         if length < 1 || length > 64 || word == 0 || !within(length, word) {
-            return Err(Refusal {
-                reason: Reason::TimetableUnlawful,
-                layer: Layer::Supply,
-                place: 0,
-            });
+            return Err(Refusal::by(Layer::Supply, Reason::TimetableUnlawful));
         }
         Ok(Timetable { length, word })
     }
