@@ -127,6 +127,10 @@ module _ (r : Row) where
   pub from_difference : (p n : ℕ) → from r 0 p + from r p n ≡ from r 0 (p + n)
   from_difference p n = omega (arith, from_sum 0 p n, ap (λ x. from r x n) (zero-add p))
 
+  -- the slots from p on, by those before its two ends; and they are at most n
+  pub from_between : (p n more : ℕ) → more ≡ n → (from r 0 p + from r p n ≡ from r 0 (p + more)) × (from r p n ≤ n)
+  from_between p n more same = rw same (from_difference p n, from_within p n)
+
   -- any n slots hold at least as many given ones as the worst phase
   pub from_window : 0 < r.turn → (p a n : ℕ) → from r p a + (repeating r).least n ≤ from r p (a + n)
   from_window some p a n =

@@ -25,15 +25,15 @@ impl Pattern {
     pub(crate) fn turn(&self) -> u32
         ensures { result ≡ self.now.of }
     {
-        self.of as u32
+        u32::from(self.of)
     }
 
     // How many of the first x slots from the turn's start on are taken.
     fn taken_before(&self, x: u32) -> u32
         ensures { result ≡ from (pattern self.now.given self.now.of) 0 x }
     {
-        let turn = self.of as u32;
-        let given = self.given as u32;
+        let turn = u32::from(self.of);
+        let given = u32::from(self.given);
         x / turn * given + (x % turn).min(given)
     }
 
@@ -42,15 +42,15 @@ impl Pattern {
         requires { start < self.now.of }
         ensures { result ≡ from (pattern self.now.given self.now.of) start x }
     {
-        (self.taken_before(start + x as u32) - self.taken_before(start)) as u16
+        (self.taken_before(start + u32::from(x)) - self.taken_before(start)) as u16
     }
 
     // How many of any x slots in a row are sure to be taken.
     pub(crate) fn sure_of(&self, x: u16) -> u16
         ensures { result ≡ sure self.now.given self.now.of x }
     {
-        let turn = self.of as u16;
-        let given = self.given as u16;
+        let turn = u16::from(self.of);
+        let given = u16::from(self.given);
         x / turn * given + (x % turn).saturating_sub(turn - given)
     }
 
@@ -58,6 +58,6 @@ impl Pattern {
     pub(crate) fn worst_start(&self) -> u32
         ensures { result ≡ self.now.given % self.now.of }
     {
-        (self.given % self.of) as u32
+        u32::from(self.given % self.of)
     }
 }

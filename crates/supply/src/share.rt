@@ -68,10 +68,7 @@ impl<B: Supply> Supply for Share<B> {
 
     fn phases(&self) -> u32 {
         let below = self.below.phases();
-        match piled_phases(below, self.pattern.turn()) {
-            Some(all) => all,
-            None => below,
-        }
+        piled_phases(below, self.pattern.turn()).unwrap_or(below)
     }
 
     fn count(&self, phase: u32, n: u16) -> u16 {

@@ -11,7 +11,7 @@ impl Timetable {
     fn given_before(&self, x: u32) -> u32
         ensures { result ≡ from (bits self.now.length self.now.word) 0 x }
     {
-        let turn = self.length as u32;
+        let turn = u32::from(self.length);
         let left_over = self.word & ((1 << (x % turn)) - 1);
         x / turn * self.word.count_ones() + left_over.count_ones()
     }
@@ -21,7 +21,7 @@ impl Timetable {
         requires { start < self.now.length }
         ensures { result ≡ from (bits self.now.length self.now.word) start n }
     {
-        (self.given_before(start + n as u32) - self.given_before(start)) as u16
+        (self.given_before(start + u32::from(n)) - self.given_before(start)) as u16
     }
 }
 
@@ -35,17 +35,17 @@ impl Supply for Timetable {
     ghost attained = { λ t. (repeating_lawful (bits t.length t.word) t.lawful.0).attained };
 
     fn phases(&self) -> u32 {
-        self.length as u32
+        u32::from(self.length)
     }
 
     fn count(&self, phase: u32, n: u16) -> u16 {
-        self.given_from(phase % self.length as u32, n)
+        self.given_from(phase % self.phases(), n)
     }
 
     fn least(&self, n: u16) -> (u16, u32) {
         let mut fewest = self.given_from(0, n);
         let mut worst = 0;
-        for phase in 1..self.length as u32 {
+        for phase in 1..self.phases() {
             let given = self.given_from(phase, n);
             if given < fewest {
                 fewest = given;
