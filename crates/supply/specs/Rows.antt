@@ -1,7 +1,7 @@
 -- A row that repeats for ever obeys the laws of a supply, and whole turns add the same at every start: from the definitions alone.
 -- Lemmas: they stand in specs/ since the laws of an `impl` cite them, and nobody has to believe them.
 use Rattle.std.specs.Prelude.{◌≡◌, ℕ, zero, suc, ◌+◌, ◌*◌, ◌/◌, ◌%◌, ◌<◌, ◌≤◌, Bool, refl}
-use Rattle.std.proofs.Common.{⊎_elim, sym, ap, ◌∙◌, add-zero, add-suc, add_assoc, zero-add, add_comm, mod-lt, mod-eq_of_lt, add-one, arith}
+use Rattle.std.proofs.Common.{⊎_elim, sym, ap, ◌∙◌, add-zero, add-suc, add_assoc, zero-add, add_comm, mod-lt, mod-eq_of_lt, arith}
 use Rattle.std.proofs.Math.Nat.{mod-add-mod, add-mod_right, mod-add-div'}
 use Rattle.std.proofs.lemmas.Bool.{cases_lt}
 use Rattle.supply.specs.Least.{counted_within}
@@ -27,27 +27,6 @@ upto_alike f g (suc n) alike =
     let below = upto_alike f g n (λ s h. alike s (omega arith)) in
     let last = alike n (omega arith) in
     grind arith
-
--- w is the first of the lowest places below k, and v is f there
-abbrev pub SoFar : (ℕ → ℕ) → ℕ → ℕ → ℕ → Type 0
-SoFar f k w v = (w ≡ lowest f k) × (v ≡ f w)
-
-pub so_far_one : (f : ℕ → ℕ) (v : ℕ) → v ≡ f 0 → SoFar f 1 0 v
-unfolding lowest
-so_far_one f v is = (grind arith, is)
-
--- one place more is taken where it is lower than the lowest before it
-pub so_far_takes : (f : ℕ → ℕ) (k w v x w' v' : ℕ) → SoFar f k w v → x ≡ f k → x < v → w' ≡ k → v' ≡ x → SoFar f (k + 1) w' v'
-unfolding lowest
-so_far_takes f k w v x w' v' best is lower place value =
-    let lowest-is = ap f best.0 in
-    (rw add-one (grind arith), value ∙ is ∙ sym (ap f place))
-
-pub so_far_keeps : (f : ℕ → ℕ) (k w v x w' v' : ℕ) → SoFar f k w v → x ≡ f k → v ≤ x → w' ≡ w → v' ≡ v → SoFar f (k + 1) w' v'
-unfolding lowest
-so_far_keeps f k w v x w' v' best is higher place value =
-    let lowest-is = ap f best.0 in
-    (rw add-one (grind arith), value ∙ best.1 ∙ sym (ap f place))
 
 -- the first of the lowest places: it is one of them, no place is lower, and each place before it is higher
 pub lowest_there : (f : ℕ → ℕ) (k : ℕ) → 0 < k → lowest f k < k

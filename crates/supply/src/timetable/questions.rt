@@ -43,15 +43,10 @@ impl Supply for Timetable {
     }
 
     fn least(&self, n: u16) -> (u16, u32) {
-        let mut fewest = self.given_from(0, n);
-        let mut worst = 0;
-        for phase in 1..self.phases() {
-            let given = self.given_from(phase, n);
-            if given < fewest {
-                fewest = given;
-                worst = phase;
-            }
-        }
-        (fewest, worst)
+        (1..self.phases())
+            .map(|phase| (self.count(phase, n), phase))
+            .fold((self.count(0, n), 0), |worst, next| {
+                if next.0 < worst.0 { next } else { worst }
+            })
     }
 }

@@ -1,21 +1,23 @@
--- One phase more is taken where it begins with fewer given slots than the worst so far.
-use Rattle.std.proofs.Common.{ℕ}
-use Rattle.supply.specs.Rows.{so_far_one, so_far_takes, so_far_keeps}
+-- Each phase begins with its count of given slots, and the fold keeps the first of the lowest.
+use Rattle.std.proofs.Common.{rules, tests, ◌≡◌, ℕ, ◌-◌, ap, ◌∙◌, arith}
+use Rattle.std.proofs.lemmas.Iterator.{YieldsList-from_map, YieldsList-from_range}
+use Rattle.std.proofs.lemmas.Iterator.Consumers.{fold_from_yields_List}
+use Rattle.supply.proofs.Lowest.{lower, lowest_pair, fold_from_first}
 use Rattle.supply.specs.Row.{from}
+use Rattle.supply.specs.Rows.{from_mod}
 use Rattle.supply.specs.Timetable.{bits}
 use Rattle.supply.proofs.timetable.questions.TimetableSupply.least.Goals as goal
-use Rattle.supply.proofs.timetable.questions.TimetableSupply.least.Goals.{then-given-fewest, else-given-fewest}
 
-pub loop-phase-init : goal.loop-phase-init
-loop-phase-init c =
-    let t = c.args.self.now in
-    so_far_one (λ p. from (bits t.length t.word) p c.args.n) _ c.given_from-fewest.ensures
-
-pub loop-phase-preserved : goal.loop-phase-preserved
-loop-phase-preserved c =
+folded : (c : goal.After-fold) → c.fold.result ≡ lowest_pair (λ p. from (bits c.args.self.now.length c.args.self.now.word) p c.args.n) c.args.self.now.length
+folded c =
     let t = c.args.self.now in
     let f = λ (p : ℕ). from (bits t.length t.word) p c.args.n in
-    elim c.if-given-fewest.branch [
-      | then-given-fewest w ↦ so_far_takes f _ _ _ _ _ _ c.loop-phase.invariant c.given_from-given.ensures w.if-given-fewest.true w.worst-is w.fewest-is
-      | else-given-fewest w ↦ so_far_keeps f _ _ _ _ _ _ c.loop-phase.invariant c.given_from-given.ensures w.if-given-fewest.false w.worst-is w.fewest-is
-    ]
+    let all = YieldsList-from_map _ (λ p. (f p, p)) (YieldsList-from_range 1 _ (t.length - 1) c.map.ensures.source (omega (arith, c.phases.ensures))) c.map.ensures.closure (λ x r q k. search (rules, from_mod (bits t.length t.word) x c.args.n)) in
+    fold_from_yields_List _ lower _ _ c.fold.ensures.ran all (λ a x b q k. search (rules, tests))
+    ∙ fold_from_first f c.count.result t.length (c.count.ensures ∙ from_mod (bits t.length t.word) 0 c.args.n) t.lawful.0
+
+pub returns-clause-number : goal.returns-clause-number
+returns-clause-number c = ap (λ (p : ℕ × ℕ). p.0) (folded c)
+
+pub returns-clause-phase : goal.returns-clause-phase
+returns-clause-phase c = ap (λ (p : ℕ × ℕ). p.1) (folded c)
