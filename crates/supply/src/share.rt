@@ -24,6 +24,15 @@ pub struct ShareRefused<B> {
     pub below: B,
 }
 
+// Where the supply below is not wanted back.
+impl<B: Drop> From<ShareRefused<B>> for Refusal {
+    ghost from_gives = { λ refused refusal. refusal ≡ refused.refusal };
+
+    fn from(refused: ShareRefused<B>) -> Refusal {
+        refused.refusal
+    }
+}
+
 // The number of phases of a share, unless they are too many.
 fn piled_phases(below: u32, turn: u32) -> Option<u32>
     ensures { MatchOption result (most_phases < below * turn) (λ all. (all ≡ below * turn) × (all ≤ most_phases)) }
