@@ -6,6 +6,8 @@ use crate::supply::Supply;
 use crate::timetable::Timetable;
 use crate::whole::Whole;
 
+// Two enums, and not one generic choice of two supplies: that would have callers write First(First(Whole)) for Plain(Bottom::Whole(Whole)).
+
 // What a share may stand on: the whole processor or a timetable.
 #[derive(Clone, Copy)]
 pub enum Bottom {
