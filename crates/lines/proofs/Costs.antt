@@ -1,10 +1,10 @@
 -- Rest points, deadlines and counts do not depend on costs.
-use Rattle.std.proofs.Common.{◌≡◌, ℕ, zero, suc, ◌*◌, ◌<◌, ◌≤◌, Bool, cond, ◌&&◌, ◌||◌, List, [], ◌∷◌, ◌++◌, map, length, get_or, take, set, sym, refl, ap, ◌∙◌, ap₂, ⊎_elim, arith}
+use Rattle.std.proofs.Common.{◌≡◌, ℕ, zero, suc, ◌*◌, ◌<◌, ◌≤◌, Bool, cond, ◌&&◌, ◌||◌, List, [], ◌∷◌, ◌++◌, map, length, get_or, sym, refl, ap, ◌∙◌, ap₂, ⊎_elim, arith}
 use Rattle.lines.specs.Changes.{timing, Alike, recosted, with_cost}
 use Rattle.lines.specs.Demand.{AllLawful, no_row, count}
 use Rattle.lines.specs.Rest.{first, every, some, divides, resting, due, product, hyperperiod, first_rest, deadlines, full_list}
 use Rattle.lines.specs.declared.row.Row.{Row}
-use Rattle.std.proofs.lemmas.List.{length-map, get_or-map, get_or-take, get_or-set_same, get_or-set_other, length-set, map-set, set-get_or}
+use Rattle.std.proofs.lemmas.List.{length-map, get_or-map, get_or-set_same, get_or-set_other, length-set, map-set, set-get_or}
 use Rattle.std.proofs.lemmas.Bool.{cases_eq}
 use mathlib.Core.Path.{fun_ext}
 
@@ -71,14 +71,3 @@ lawful_recosted rows i c there low high ok k l =
     let same = length-set rows i row in
     let old = ok i there in
     ⊎_elim (λ (h : k ≡ i). rw (h, get_or-set_same rows i row no_row there) (old.0, old.1, old.2, low, high)) (λ (h : k ≡ i → ⊥). rw (get_or-set_other rows i k row no_row h) (ok k (omega arith))) (cases_eq k i)
-
--- a row written into a table
-front_set : (n : ℕ) (rows : List Row) (i : ℕ) (row : Row) → take n (set rows i row) ≡ set (take n rows) i row
-front_set zero rows i row = refl
-front_set (suc n) [] i row = refl
-front_set (suc n) (r ∷ rows) zero row = refl
-front_set (suc n) (r ∷ rows) (suc i) row = ap (λ rs. r ∷ rs) (front_set n rows i row)
-
-pub front_recosted : (rows : List Row) (len i c : ℕ) → i < len → take len (set rows i (recosted (get_or rows i no_row) c)) ≡ with_cost (take len rows) i c
-front_recosted rows len i c l =
-    front_set len rows i (recosted (get_or rows i no_row) c) ∙ ap (λ row. set (take len rows) i (recosted row c)) (sym (get_or-take len rows i no_row l))

@@ -1,5 +1,5 @@
 -- Counts of a line through one quotient: they are monotone and split at rest points.
-use Rattle.std.proofs.Common.{◌≡◌, ℕ, suc, ◌+◌, ◌-◌, ◌*◌, ◌/◌, ◌%◌, ◌<◌, ◌≤◌, true, false, ◌⊎◌, sym, ap, ◌∙◌, ⊎_elim, mul-le-mul_right, mul_assoc, div-lt_iff_lt-mul, add-mul, lt_of_mul-lt-mul_right, div-add-mod', zero-mul, arith}
+use Rattle.std.proofs.Common.{◌≡◌, ℕ, suc, ◌+◌, ◌-◌, ◌*◌, ◌/◌, ◌%◌, ◌<◌, ◌≤◌, true, false, ◌⊎◌, sym, ap, ◌∙◌, ⊎_elim, mul-le-mul, mul-le-mul_right, mul_assoc, div-lt_iff_lt-mul, add-mul, lt_of_mul-lt-mul_right, div-add-mod', zero-mul, arith}
 use Rattle.lines.specs.Demand.{Lawful, counted, count}
 use Rattle.lines.specs.Laws.{LineLaws}
 use Rattle.lines.specs.Rest.{resting, due}
@@ -27,6 +27,12 @@ module _ (T D : ℕ) (some : 1 ≤ D) (within : D ≤ T) where
   counted_least t n l =
       let below : (t + (T - D)) / T < suc n = (div-lt_iff_lt-mul {k = T} {x = t + (T - D)} {y = suc n} (omega arith)).1 l in
       omega (arith, counted_is t)
+
+  -- no more jobs fall due than instants have come
+  pub counted_within : (t : ℕ) → counted T D t ≤ t
+  counted_within t =
+      let most : t * 1 ≤ t * T = mul-le-mul (omega arith) (omega arith) in
+      counted_least t t (omega (arith, add-mul t 1 T))
 
   pub counted_monotone : (t u : ℕ) → t ≤ u → counted T D t ≤ counted T D u
   counted_monotone t u le = counted_least t (counted T D u) (omega (arith, counted_below u))

@@ -1,5 +1,5 @@
--- Lawful rows: the first ones, and one more.
-use Rattle.std.proofs.Common.{◌≡◌, ℕ, ◌<◌, ◌≤◌, List, [], ◌∷◌, ◌++◌, length, take, ⊎_elim, arith}
+-- Lawful rows: the first ones, one more, and those behind the first.
+use Rattle.std.proofs.Common.{◌≡◌, ℕ, suc, ◌<◌, ◌≤◌, List, [], ◌∷◌, ◌++◌, length, take, ⊎_elim, arith}
 use Rattle.lines.specs.Demand.{Lawful, AllLawful, no_row}
 use Rattle.lines.specs.declared.row.Row.{Row}
 use Rattle.std.proofs.lemmas.List.{length-take, get_or-take, length_push, get_or_push, get_or_append_left}
@@ -17,3 +17,6 @@ lawful_push rows row ok lawful i l =
     ⊎_elim (λ (h : i < length rows). rw (get_or_append_left rows (row ∷ []) no_row i h) (ok i h)) (λ (h : length rows ≤ i).
     let last : length rows ≡ i = omega arith in
     rw (get_or_push rows row no_row i last) lawful) (cases_lt i (length rows))
+
+pub lawful_behind : (row : Row) (rows : List Row) → AllLawful (row ∷ rows) → AllLawful rows
+lawful_behind row rows ok i l = ok (suc i) (omega arith)

@@ -1,4 +1,3 @@
-pub mod Adding
 pub mod Costs
 pub mod Counts
 pub mod Every
@@ -7,9 +6,12 @@ pub mod First
 pub mod Gathered
 pub mod Hyperperiod
 pub mod Lawful
+pub mod Least
 pub mod Leaving
 pub mod Listed
 pub mod Multiples
+pub mod Nothing
 pub mod Removing
 pub mod Rests
 pub mod Rising
+pub mod Walk

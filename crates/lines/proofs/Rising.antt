@@ -1,10 +1,12 @@
 -- The next deadline of a line, and how the list of deadlines grows from one deadline to the next.
-use Rattle.std.proofs.Common.{◌≡◌, ℕ, zero, suc, ◌+◌, ◌-◌, ◌*◌, ◌/◌, ◌%◌, ◌<◌, ◌≤◌, min, Bool, true, false, List, [], ◌∷◌, ◌++◌, length, get_or, refl, ap, ◌∙◌, ⊎_elim, mod-lt, div-add-mod', arith}
+use Rattle.std.proofs.Common.{◌≡◌, ℕ, zero, suc, ◌+◌, ◌-◌, ◌*◌, ◌/◌, ◌%◌, ◌<◌, ◌≤◌, min, Bool, true, false, List, [], ◌∷◌, ◌++◌, length, map, fold, get_or, refl, sym, ap, ◌∙◌, ⊎_elim, mod-lt, div-add-mod', arith}
 use Rattle.lines.proofs.Every.{some_at, some_none}
+use Rattle.lines.proofs.Least.{least_below, least_found}
 use Rattle.lines.specs.Demand.{Lawful, AllLawful, no_row, count}
-use Rattle.lines.specs.Rest.{some, due, deadline_after, deadlines}
+use Rattle.lines.specs.Rest.{some, due, deadline_after, deadlines, Soonest}
 use Rattle.lines.specs.declared.row.Row.{Row}
-use Rattle.std.proofs.lemmas.List.{length_push}
+use Rattle.std.specs.List.{reduce}
+use Rattle.std.proofs.lemmas.List.{length_push, length-map, get_or-map}
 use Rattle.std.proofs.lemmas.Bool.{cases_lt}
 use lib.Arith.{digits_mod}
 use native.Mathlib.Nat.{mul-mod_left}
@@ -54,28 +56,32 @@ module _ (row : Row) (ok : Lawful row) (t : ℕ) where
       let left : (k - row.deadline) % row.period ≡ r = ap (λ x. x % row.period) at ∙ digits_mod q small in
       grind arith) (cases_lt t row.deadline)) (cases_lt k row.deadline)
 
--- `soonest` is the first deadline after an instant of the first i lines, or an end that comes before
-pub record Soonest (rows : List Row) (i after past soonest : ℕ) : Type 0 where
-  pub bound : soonest ≤ past
-  pub none : (j k : ℕ) → j < i → after < k → k < soonest → due k (get_or rows j no_row) ≡ false
-  pub found : soonest < past → (after < soonest) × (some (due soonest) rows ≡ true)
+-- m is the least of the lines' next deadlines
+module _ (rows : List Row) (after m : ℕ) (ok : AllLawful rows) (least : (i : ℕ) → i < length rows → m ≤ deadline_after (get_or rows i no_row) after) where
+  pub quiet_before : (k : ℕ) → after < k → k < m → some (due k) rows ≡ false
+  quiet_before k l n =
+      some_none (due k) rows (λ i w. after_first (get_or rows i no_row) (ok i w) after k l (omega (arith, least i w)))
 
-pub soonest_none : (rows : List Row) (after past : ℕ) → Soonest rows 0 after past past
-soonest_none rows after past = record { bound = omega arith; none = λ j k l. absurd (omega arith); found = λ l. absurd (omega arith) }
+  pub least_due : (i : ℕ) → i < length rows → m ≡ deadline_after (get_or rows i no_row) after → (after < m) × (some (due m) rows ≡ true)
+  least_due i w is =
+      let row = get_or rows i no_row in
+      rw is (after_later row (ok i w) after, some_at (due (deadline_after row after)) rows i w (after_due row (ok i w) after))
 
-pub soonest_more : (rows : List Row) (i after past soonest : ℕ) → i < length rows → AllLawful rows → Soonest rows i after past soonest → Soonest rows (i + 1) after past (min soonest (deadline_after (get_or rows i no_row) after))
-soonest_more rows i after past soonest within ok s =
-    let row = get_or rows i no_row in
-    let lawful = ok i within in
-    let next = deadline_after row after in
-    record {
-      bound = omega (arith, s.bound);
-      none = λ j k l m n. ⊎_elim (λ (h : j < i). s.none j k h m (omega arith)) (λ (h : i ≤ j). let same : j ≡ i = omega arith in rw same (after_first row lawful after k m (omega arith))) (cases_lt j i);
-      found = λ l. ⊎_elim (λ (h : next < soonest). let is : min soonest next ≡ next = omega arith in rw is (after_later row lawful after, some_at (due next) rows i within (after_due row lawful after))) (λ (h : soonest ≤ next). let is : min soonest next ≡ soonest = omega arith in rw is (s.found (omega arith))) (cases_lt next soonest);
-    }
-
-pub soonest_all : (rows : List Row) (i after past soonest k : ℕ) → length rows ≤ i → Soonest rows i after past soonest → after < k → k < soonest → some (due k) rows ≡ false
-soonest_all rows i after past soonest k all s l m = some_none (due k) rows (λ j n. s.none j k (omega arith) l m)
+-- the least of the lines' next deadlines is the first deadline after an instant
+pub soonest_is : (rows : List Row) (after : ℕ) → AllLawful rows → Soonest rows after (reduce min (map (λ row. deadline_after row after) rows))
+unfolding some
+soonest_is [] after ok = λ k l. refl
+soonest_is (row ∷ rest) after ok =
+    let next = λ (row : Row). deadline_after row after in
+    let rows = row ∷ rest in
+    let place = least_found (next row) (map next rest) in
+    let least = least_below (next row) (map next rest) in
+    let m = fold min (next row) (map next rest) in
+    let at : (i : ℕ) → i < length rows → get_or (map next rows) i 0 ≡ next (get_or rows i no_row) = λ i l. get_or-map next rows i no_row 0 l in
+    let all : (i : ℕ) → i < length rows → m ≤ next (get_or rows i no_row) = λ i l. omega (arith, least i (omega (arith, length-map rest next)), at i l) in
+    let there : place.0 < length rows = omega (arith, place.1, length-map rest next) in
+    let is = least_due rows after m ok all place.0 there (sym place.2 ∙ at place.0 there) in
+    (is.0, is.1, quiet_before rows after m ok all)
 
 -- no line has a deadline after a and up to b
 abbrev pub Quiet : List Row → ℕ → ℕ → Type 0

@@ -5,3 +5,4 @@ pub mod Demand
 pub mod Laws
 pub mod Of
 pub mod Rest
+pub mod Left

@@ -1,24 +1,25 @@
-// The deadlines of lawful rows in rising order, by the next one of each line.
+// The deadlines of lines in rising order, by the next one of each line.
 ghost use Rattle.std.specs.Prelude.{◌≡◌, ◌<◌, length, MatchOption};
-ghost use Rattle.lines.specs.Demand.{AllLawful};
 ghost use Rattle.lines.specs.Of.{watched};
-ghost use Rattle.lines.specs.Rest.{Next, deadlines};
+ghost use Rattle.lines.specs.Rest.{Next, Soonest, deadlines};
+ghost use Rattle.lines.specs.Left.{rows_left};
 
-use crate::line::Line;
-use crate::row::Row;
+use crate::line_iter::LineIter;
 use crate::watch_list::WatchList;
 
-// The first deadline after an instant and up to an end, if there is one.
-pub(crate) fn next_deadline(rows: &[Row], after: u16, end: u16) -> Option<u16>
-    requires { AllLawful rows.now }
-    ensures { Next rows.now after «end» result }
+// The soonest of the lines' next deadlines after an instant, if there is a line.
+fn soonest(lines: LineIter<'_>, after: u16) -> Option<u32>
+    ensures { Soonest (rows_left lines.entry) after result }
 {
-    let past = u32::from(end) + 1;
-    let mut first = past;
-    for row in rows {
-        first = first.min(Line::of(*row).deadline_after(after));
-    }
-    if first < past {
+    lines.map(|line| line.deadline_after(after)).min()
+}
+
+// The first deadline after an instant and up to an end, if there is one.
+pub(crate) fn next_deadline(lines: LineIter<'_>, after: u16, end: u16) -> Option<u16>
+    ensures { Next (rows_left lines.entry) after «end» result }
+{
+    let first = soonest(lines, after)?;
+    if first <= u32::from(end) {
         Some(first as u16)
     } else {
         None
@@ -26,16 +27,13 @@ pub(crate) fn next_deadline(rows: &[Row], after: u16, end: u16) -> Option<u16>
 }
 
 // Every deadline up to an end, unless there are more than 256.
-pub(crate) fn deadlines_to(rows: &[Row], end: u16) -> Option<WatchList>
-    requires { AllLawful rows.now }
-    ensures { MatchOption result (256 < length (deadlines rows.now «end»)) (λ w. watched w ≡ deadlines rows.now «end») }
+pub(crate) fn deadlines_to(lines: LineIter<'_>, end: u16) -> Option<WatchList>
+    ensures { MatchOption result (256 < length (deadlines (rows_left lines.entry) «end»)) (λ w. watched w ≡ deadlines (rows_left lines.entry) «end») }
 {
     let mut list = WatchList::none();
     let mut at = 0;
-    while let Some(d) = next_deadline(rows, at, end) {
-        if !list.push(d) {
-            return None;
-        }
+    while let Some(d) = next_deadline(lines, at, end) {
+        list.push(d).ok()?;
         at = d;
     }
     Some(list)

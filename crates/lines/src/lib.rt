@@ -4,6 +4,7 @@
 mod deadlines;
 mod laws;
 mod line;
+mod line_iter;
 mod rest;
 mod row;
 mod table;
@@ -11,6 +12,7 @@ mod watch_list;
 
 pub use laws::{deadline_laws, fewer_laws, line_laws, rest_laws};
 pub use line::Line;
+pub use line_iter::LineIter;
 pub use row::Row;
 pub use table::Lines;
 pub use watch_list::WatchList;

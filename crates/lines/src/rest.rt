@@ -1,10 +1,10 @@
-// The hyperperiod and the first rest point of lawful rows.
+// The hyperperiod and the first rest point of lines.
 ghost use Rattle.std.specs.Prelude.{◌≡◌, ℕ, ◌<◌, ◌≤◌, true, false, MatchOption};
 ghost use Rattle.lines.specs.Common.{Common, LeastCommon};
-ghost use Rattle.lines.specs.Demand.{AllLawful};
 ghost use Rattle.lines.specs.Rest.{every, resting, hyperperiod, first_rest};
+ghost use Rattle.lines.specs.Left.{rows_left};
 
-use crate::row::Row;
+use crate::line_iter::LineIter;
 
 // The longest hyperperiod that is taken.
 pub(crate) const LONGEST: u16 = 30_000;
@@ -27,41 +27,36 @@ fn least_common(a: u16, b: u16) -> Option<u16>
 }
 
 // The hyperperiod, unless it is over 30,000.
-pub(crate) fn hyperperiod_of(rows: &[Row]) -> Option<u16>
-    requires { AllLawful rows.now }
-    ensures { MatchOption result (30000 < hyperperiod rows.now) (λ h. (h ≡ hyperperiod rows.now) × (h ≤ 30000)) }
+pub(crate) fn hyperperiod_of(lines: LineIter<'_>) -> Option<u16>
+    ensures { MatchOption result (30000 < hyperperiod (rows_left lines.entry)) (λ h. (h ≡ hyperperiod (rows_left lines.entry)) × (h ≤ 30000)) }
 {
     let mut h = 1;
-    for row in rows {
-        let Some(more) = least_common(h, row.period) else {
-            return None;
-        };
-        h = more;
+    for line in lines {
+        h = least_common(h, line.row().period)?;
     }
     Some(h)
 }
 
 // Where some line does not rest at t: the next instant at which it does.
-fn next_rest(rows: &[Row], t: u16) -> Option<u16>
-    requires { AllLawful rows.now × (t ≤ 30000) }
-    ensures { MatchOption result (every (resting t) rows.now ≡ true) (λ u. (t < u) × (u ≤ 31000) × ((k : ℕ) → t ≤ k → k < u → every (resting k) rows.now ≡ false)) }
+fn next_rest(lines: LineIter<'_>, t: u16) -> Option<u16>
+    requires { t ≤ 30000 }
+    ensures { MatchOption result (every (resting t) (rows_left lines.entry) ≡ true) (λ u. (t < u) × ((k : ℕ) → t ≤ k → k < u → every (resting k) (rows_left lines.entry) ≡ false)) }
 {
-    for row in rows {
-        let past = t % row.period;
-        if past != 0 && past < row.deadline {
-            return Some(t - past + row.deadline);
+    for line in lines {
+        if let Some(later) = line.next_rest(t) {
+            return Some(later);
         }
     }
     None
 }
 
 // The first rest point.
-pub(crate) fn first_rest_of(rows: &[Row]) -> u16
-    requires { AllLawful rows.now × (hyperperiod rows.now ≤ 30000) }
-    ensures { (result ≡ first_rest rows.now) × (result ≤ 30000) }
+pub(crate) fn first_rest_of(lines: LineIter<'_>) -> u16
+    requires { hyperperiod (rows_left lines) ≤ 30000 }
+    ensures { (result ≡ first_rest (rows_left lines.entry)) × (result ≤ 30000) }
 {
     let mut t = 1;
-    while let Some(later) = next_rest(rows, t) {
+    while let Some(later) = next_rest(lines, t) {
         t = later;
     }
     t

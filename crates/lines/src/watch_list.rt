@@ -1,12 +1,12 @@
-ghost use Rattle.std.specs.Prelude.{◌≡◌, ◌≤◌, length};
+ghost use Rattle.std.specs.Prelude.{◌≤◌, length};
 
 mod methods;
+
+use short_list::ShortList;
 
 // The deadlines at which demand is compared with supply: at most 256.
 #[derive(Clone, Copy)]
 pub struct WatchList {
-    deadlines: [u16; 256],
-    len: usize,
-    ghost room: { length deadlines ≡ 256 },
-    ghost within: { len ≤ 256 },
+    deadlines: ShortList<u16, 256>,
+    ghost within: { length deadlines.items ≤ 256 },
 }

@@ -1,8 +1,8 @@
 ghost use Rattle.lines.specs.Calls.{line_checks};
 ghost use Rattle.lines.specs.Demand.{Lawful, count, work};
-ghost use Rattle.lines.specs.Rest.{deadline_after};
+ghost use Rattle.lines.specs.Rest.{deadline_after, resting};
 ghost use Rattle.refusal.specs.Answers.{Answered};
-ghost use Rattle.std.specs.Prelude.{◌≡◌};
+ghost use Rattle.std.specs.Prelude.{◌≡◌, ℕ, ◌<◌, ◌≤◌, true, false, MatchOption};
 
 use crate::line::Line;
 use crate::row::Row;
@@ -54,6 +54,19 @@ impl Line {
         ensures { result ≡ deadline_after self.now.row t }
     {
         u32::from(self.count(t)) * u32::from(self.row.period) + u32::from(self.row.deadline)
+    }
+
+    // Where the line does not rest at t: the next instant at which it does.
+    pub(crate) fn next_rest(&self, t: u16) -> Option<u16>
+        requires { t ≤ 30000 }
+        ensures { MatchOption result (resting t self.now.row ≡ true) (λ u. (t < u) × ((k : ℕ) → t ≤ k → k < u → resting k self.now.row ≡ false)) }
+    {
+        let past = t % self.row.period;
+        if past != 0 && past < self.row.deadline {
+            Some(t - past + self.row.deadline)
+        } else {
+            None
+        }
     }
 
     // The line of a lawful row.

@@ -1,9 +1,10 @@
-ghost use Rattle.std.specs.Prelude.{◌≡◌, ◌≤◌, [], ◌∷◌, ◌++◌, length, Decides, MatchBool};
+ghost use Rattle.std.specs.Prelude.{◌≡◌, ◌≤◌, [], ◌∷◌, ◌++◌, length, Decides, MatchResult};
 ghost use Rattle.lines.specs.Changes.{without};
 ghost use Rattle.lines.specs.Of.{watched};
 ghost use Rattle.std.specs.List.{ContainsAt as Has};
 
 use crate::watch_list::WatchList;
+use short_list::{Full, ShortList};
 
 impl WatchList {
     // The list of no deadline.
@@ -11,8 +12,7 @@ impl WatchList {
         ensures { watched result ≡ [] }
     {
         WatchList {
-            deadlines: [0; 256],
-            len: 0,
+            deadlines: ShortList::none(0),
         }
     }
 
@@ -20,7 +20,7 @@ impl WatchList {
     pub fn as_slice(&self) -> &[u16]
         ensures { result.now ≡ watched self.now }
     {
-        &self.deadlines[0..self.len]
+        self.deadlines.as_slice()
     }
 
     // How many deadlines are watched.
@@ -42,24 +42,18 @@ impl WatchList {
         ensures { watched result ≡ without d (watched self.now) }
     {
         let mut rest = WatchList::none();
-        let list = self.as_slice();
-        for x in list {
+        for x in self.as_slice() {
             if *x != d {
-                rest.push(*x);
+                rest.push(*x).unwrap();
             }
         }
         rest
     }
 
-    // One deadline more at the end; false, and nothing changes, where the list is full.
-    pub(crate) fn push(&mut self, d: u16) -> bool
-        ensures { MatchBool result (watched self.new ≡ watched self.old ++ (d ∷ [])) ((256 ≤ length (watched self.old)) × (watched self.new ≡ watched self.old)) }
+    // One deadline more at the end; nothing changes where the list is full.
+    pub(crate) fn push(&mut self, d: u16) -> Result<(), Full>
+        ensures { MatchResult result (λ _. watched self.new ≡ watched self.old ++ (d ∷ [])) (λ _. (256 ≤ length (watched self.old)) × (watched self.new ≡ watched self.old)) }
     {
-        if self.len >= 256 {
-            return false;
-        }
-        self.deadlines[self.len] = d;
-        self.len += 1;
-        true
+        self.deadlines.push(d)
     }
 }

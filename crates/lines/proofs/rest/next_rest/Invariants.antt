@@ -1,7 +1,8 @@
-use Rattle.std.proofs.Common.{◌≡◌, ℕ, ◌<◌, true, get_or}
-use Rattle.lines.specs.Demand.{no_row}
-use Rattle.lines.specs.Rest.{resting}
 use Rattle.lines.proofs.rest.next_rest.Given as goal
+use Rattle.lines.specs.Demand.{no_row}
+use Rattle.lines.specs.Left.{rows_left}
+use Rattle.lines.specs.Rest.{resting}
+use Rattle.std.proofs.Common.{◌≡◌, ℕ, ◌<◌, length, true, get_or}
 
-abbrev pub invariant-loop-row : goal.invariant-loop-row
-invariant-loop-row l = (i : ℕ) → i < l.row-index → resting l.t (get_or l.rows i no_row) ≡ true
+abbrev pub invariant-loop-line : goal.invariant-loop-line
+invariant-loop-line l = (i : ℕ) → i < length l.yielded → resting l.t (get_or (rows_left l.lines) i no_row) ≡ true

@@ -1,7 +1,11 @@
+use Rattle.lines.proofs.Nothing.{brief_none, few_none}
 use Rattle.lines.proofs.table.Lines.none.Goals as goal
-use Rattle.lines.specs.Rest.{first, every, some, product, deadlines}
-use Rattle.std.proofs.Common.{refl, arith}
+use Rattle.std.proofs.Common.{length, ap, rules, arith}
 
 pub invariant_of-result : goal.invariant_of-result
-unfolding first every some product deadlines
-invariant_of-result c = record { room = refl; within = omega arith; lawful = λ i l. absurd (omega arith); brief = omega arith; few = omega arith }
+invariant_of-result c = record {
+  within = search rules;
+  lawful = λ i l. absurd (omega (arith, ap length c.none.ensures));
+  brief = brief_none _ (search rules);
+  few = few_none _ (search rules);
+}
