@@ -1,5 +1,5 @@
 -- The jobs that are released are put into the table one after another, in the order of the list.
-use Rattle.std.proofs.Common.{◌≡◌, ℕ, suc, ◌<◌, ◌≤◌, List, length, set, subst, ⊎_elim, arith}
+use Rattle.std.proofs.Common.{◌≡◌, ℕ, suc, ◌<◌, ◌≤◌, List, Option, Some, length, set, subst, ⊎_elim, arith}
 use Rattle.edf.specs.Edf.{Unfinished}
 use Rattle.edf.specs.Jobs.{Job, job}
 use Rattle.run.proofs.Holding.{holds_more}
@@ -8,7 +8,7 @@ use Rattle.run.specs.declared.ready.Ready.{Ready}
 use Rattle.std.proofs.lemmas.Bool.{cases_lt}
 
 module _ (jobs : List Job) (line_by_place : ℕ → ℕ) (keeping : Keeping jobs line_by_place) (s : ℕ) where
-  pub admits_none : (n : ℕ) (table : List Ready) → Admits jobs line_by_place s n table n table
+  pub admits_none : (n : ℕ) (table : List (Option Ready)) → Admits jobs line_by_place s n table n table
   admits_none n table σ settled holds = holds
 
   -- one job more that is released by s
@@ -32,9 +32,9 @@ module _ (jobs : List Job) (line_by_place : ℕ → ℕ) (keeping : Keeping jobs
         ahead = λ k l there. omega (arith, later (omega arith), keeping.ordered n k l there);
       }
 
-  pub admits_more : (n m : ℕ) (table after : List Ready) (ready : Ready) → length after ≡ 8 → m < length jobs → Cursor jobs s s m → (job jobs m).release ≤ s → ready.place ≡ m → ready.deadline ≡ (job jobs m).deadline → ready.left ≡ (job jobs m).cost → Admits jobs line_by_place s n table m after → Admits jobs line_by_place s n table (suc m) (set after (line_by_place m) ready)
+  pub admits_more : (n m : ℕ) (table after : List (Option Ready)) (ready : Ready) → length after ≡ 8 → m < length jobs → Cursor jobs s s m → (job jobs m).release ≤ s → ready.rank.place ≡ m → ready.rank.deadline ≡ (job jobs m).deadline → ready.left ≡ (job jobs m).cost → Admits jobs line_by_place s n table m after → Admits jobs line_by_place s n table (suc m) (set after (line_by_place m) (Some ready))
   admits_more n m table after ready room there cursor released place deadline left admits σ settled holds =
-      holds_more jobs line_by_place σ s after m ready (admits σ settled holds) (omega (arith, keeping.lined m there))
+      holds_more jobs line_by_place σ s after m ready (admits σ settled holds) (omega (arith, keeping.lined m there)) (omega (arith, keeping.wanting m there))
       (record { place = place; deadline = deadline; left = omega (arith, settled.unserved m there (cursor.ahead m (omega arith) there)) })
       free
     where

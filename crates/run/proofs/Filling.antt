@@ -1,5 +1,5 @@
 -- The state of a run that has filled the slots below an instant: how it begins, what one slot more leaves, and how it ends.
-use Rattle.std.proofs.Common.{◌≡◌, ℕ, suc, ◌+◌, ◌%◌, ◌<◌, ◌≤◌, List, length, set, IfSome, Some, None, Option, sym, refl, ap, ◌∙◌, subst, ⊎_elim, mod-lt, add-one, arith}
+use Rattle.std.proofs.Common.{◌≡◌, ℕ, suc, ◌+◌, ◌%◌, ◌<◌, ◌≤◌, List, length, replicate, set, IfSome, Some, None, Option, sym, refl, ap, ◌∙◌, subst, ⊎_elim, mod-lt, add-one, arith}
 use Rattle.edf.proofs.Agreement.{Agree}
 use Rattle.edf.proofs.Lateness.{on_time_more}
 use Rattle.edf.proofs.Law.{law_not_given, service_unreleased}
@@ -13,10 +13,10 @@ use Rattle.edf.specs.Schedule.{Given, idle, serves, service}
 use Rattle.run.proofs.Choosing.{none_pending, foremost_first, none_overdue, overdue_missed}
 use Rattle.run.proofs.Holding.{holds_none, holds_idle, holds_served}
 use Rattle.run.specs.Holding.{Keeping, Holds, Cursor, Settled, Admits}
-use Rattle.run.specs.Ready.{of_line, Waits, Foremost, Serves}
+use Rattle.run.specs.Ready.{Waits, NoneWaits, Foremost, Serves}
 use Rattle.run.specs.Slots.{given_in, entry, turn, schedule, entry_for, Entries}
 use Rattle.run.specs.declared.ready.Ready.{Ready}
-use Rattle.std.proofs.lemmas.List.{get_or-set_same, get_or-set_other}
+use Rattle.std.proofs.lemmas.List.{get_or-set_same, get_or-set_other, get_or-replicate, get_or_past, length-replicate}
 use Rattle.std.proofs.lemmas.Bool.{cases_lt}
 use Rattle.supply.specs.Meaning.{Meaning, Counting, Counts}
 
@@ -64,6 +64,11 @@ module _ (g : ℕ → ℕ) (slots : List ℕ) (s : ℕ) (entries : Entries g slo
           let here : entry (set slots s x) i ≡ x = ap (entry (set slots s x)) (sym at) ∙ same in
           here ∙ right (sym (ap turn here) ∙ e)
 
+-- where no slot is given
+pub all_clear : (n s : ℕ) → entry (replicate n 65535) s ≡ 65535
+all_clear n s =
+    ⊎_elim (λ (l : s < n). get_or-replicate n s 65535 65535 l) (λ (m : n ≤ s). get_or_past (replicate n 65535) s 65535 (omega (arith, m, length-replicate {A = ℕ}))) (cases_lt s n)
+
 -- the given slots of a phase are counted
 pub given_counting : (m : Meaning) (phase : ℕ) → Counts m → Counting (given_in m phase)
 given_counting m phase counts = counts.1 (phase % m.phases) (mod-lt phase counts.0)
@@ -78,7 +83,7 @@ pub count_not_given : (m : Meaning) (phase s before after : ℕ) → before ≡ 
 count_not_given m phase s before after was is stays given = let next = ap (given_in m phase) (add-one s) in omega arith
 
 -- A run has filled the slots below s: it is underway, no job is late at s, the table holds the jobs released before s, and the entries are right.
-pub record Filled (g : ℕ → ℕ) (jobs : List Job) (line_by_place : ℕ → ℕ) (slots : List ℕ) (s n : ℕ) (table : List Ready) : Type 0 where
+pub record Filled (g : ℕ → ℕ) (jobs : List Job) (line_by_place : ℕ → ℕ) (slots : List ℕ) (s n : ℕ) (table : List (Option Ready)) : Type 0 where
   pub underway : Underway g jobs (schedule slots) s
   pub done : DoneAt jobs (schedule slots) s
   pub cursor : Cursor jobs s s n
@@ -86,7 +91,7 @@ pub record Filled (g : ℕ → ℕ) (jobs : List Job) (line_by_place : ℕ → �
   pub entries : Entries g slots s
 
 -- Slot s is filled too, and it is not looked yet whether a job is late at its end.
-pub record Served (g : ℕ → ℕ) (jobs : List Job) (line_by_place : ℕ → ℕ) (slots : List ℕ) (s n : ℕ) (table : List Ready) : Type 0 where
+pub record Served (g : ℕ → ℕ) (jobs : List Job) (line_by_place : ℕ → ℕ) (slots : List ℕ) (s n : ℕ) (table : List (Option Ready)) : Type 0 where
   pub underway : Underway g jobs (schedule slots) (suc s)
   pub cursor : Cursor jobs s (suc s) n
   pub holds : Holds jobs line_by_place (schedule slots) (suc s) n table
@@ -94,7 +99,7 @@ pub record Served (g : ℕ → ℕ) (jobs : List Job) (line_by_place : ℕ → �
 
 module _ (g : ℕ → ℕ) (jobs : List Job) (line_by_place : ℕ → ℕ) (keeping : Keeping jobs line_by_place) where
   -- the start, with a slot list that is clear
-  pub filled_none : (slots : List ℕ) (table : List Ready) → ((s : ℕ) → entry slots s ≡ 65535) → ((i : ℕ) → Waits table i → ⊥) → Filled g jobs line_by_place slots 0 0 table
+  pub filled_none : (slots : List ℕ) (table : List (Option Ready)) → ((s : ℕ) → entry slots s ≡ 65535) → NoneWaits table → Filled g jobs line_by_place slots 0 0 table
   filled_none slots table clear none =
       record {
         underway = underway_none g jobs (schedule slots) (λ s l. ap turn (clear s));
@@ -104,7 +109,7 @@ module _ (g : ℕ → ℕ) (jobs : List Job) (line_by_place : ℕ → ℕ) (keep
         entries = record { not_given = λ s l no_slot. absurd (omega arith); idle_given = λ s l given e. absurd (omega arith); running = λ s k l e. absurd (omega arith); behind = λ s l. clear s };
       }
 
-  module _ (slots : List ℕ) (s n : ℕ) (table : List Ready) (filled : Filled g jobs line_by_place slots s n table) where
+  module _ (slots : List ℕ) (s n : ℕ) (table : List (Option Ready)) (filled : Filled g jobs line_by_place slots s n table) where
     -- all is settled at the instant
     pub filled_settled : Settled jobs (schedule slots) s
     filled_settled =
@@ -120,10 +125,10 @@ module _ (g : ℕ → ℕ) (jobs : List Job) (line_by_place : ℕ → ℕ) (keep
             omega arith
 
     -- what was admitted, by this run's schedule
-    pub filled_admitted : (m : ℕ) (after : List Ready) → Admits jobs line_by_place s n table m after → Holds jobs line_by_place (schedule slots) s m after
+    pub filled_admitted : (m : ℕ) (after : List (Option Ready)) → Admits jobs line_by_place s n table m after → Holds jobs line_by_place (schedule slots) s m after
     filled_admitted m after admits = admits (schedule slots) filled_settled filled.holds
 
-    module _ (m : ℕ) (admitted : List Ready) (cursor : Cursor jobs s (suc s) m) (holds : Holds jobs line_by_place (schedule slots) s m admitted) where
+    module _ (m : ℕ) (admitted : List (Option Ready)) (cursor : Cursor jobs s (suc s) m) (holds : Holds jobs line_by_place (schedule slots) s m admitted) where
       -- a slot that is not given
       pub served_not_given : (Given g s → ⊥) → Served g jobs line_by_place slots s m admitted
       served_not_given not =
@@ -137,13 +142,13 @@ module _ (g : ℕ → ℕ) (jobs : List Job) (line_by_place : ℕ → ℕ) (keep
           }
 
       -- a place that is served is one of the list
-      pub served_small : (o : Option ℕ) (after : List Ready) → Serves admitted o after → length jobs ≤ 2048 → IfSome o (λ place. place < 65535)
+      pub served_small : (o : Option ℕ) (after : List (Option Ready)) → Serves admitted o after → length jobs ≤ 2048 → IfSome o (λ place. place < 65535)
       served_small None after none few = tt
-      served_small (Some place) after (i, foremost, is, same) few = omega (arith, (holds.only i foremost.waits).there, cursor.within)
+      served_small (Some place) after (i, job, foremost, is, same) few = omega (arith, (holds.only i job foremost.waits).there, cursor.within)
 
       module _ (there : s < length slots) (given : Given g s) where
         -- a given slot, by the law at what is written
-        served_by : (x : ℕ) (after : List Ready) → Law g jobs (schedule (set slots s x)) s → Holds jobs line_by_place (schedule (set slots s x)) (suc s) m after → (turn x ≡ idle → x ≡ 0) → Served g jobs line_by_place (set slots s x) s m after
+        served_by : (x : ℕ) (after : List (Option Ready)) → Law g jobs (schedule (set slots s x)) s → Holds jobs line_by_place (schedule (set slots s x)) (suc s) m after → (turn x ≡ idle → x ≡ 0) → Served g jobs line_by_place (set slots s x) s m after
         served_by x after law held right =
             record {
               underway = underway_next g jobs (schedule slots) (schedule (set slots s x)) s filled.underway filled.done (written_agrees turn 65535 slots s x) (written_stops turn 65535 slots s x filled.underway.stops) law;
@@ -153,7 +158,7 @@ module _ (g : ℕ → ℕ) (jobs : List Job) (line_by_place : ℕ → ℕ) (keep
             }
 
         -- a given slot that serves the foremost job, or none where none waits
-        pub served_given : (o : Option ℕ) (after : List Ready) → Serves admitted o after → length jobs ≤ 2048 → Served g jobs line_by_place (set slots s (entry_for o)) s m after
+        pub served_given : (o : Option ℕ) (after : List (Option Ready)) → Serves admitted o after → length jobs ≤ 2048 → Served g jobs line_by_place (set slots s (entry_for o)) s m after
         served_given None after (none, same) few =
             let agree = written_agrees turn 65535 slots s 0 in
             let quiet = written turn 65535 slots s 0 there in
@@ -161,19 +166,19 @@ module _ (g : ℕ → ℕ) (jobs : List Job) (line_by_place : ℕ → ℕ) (keep
             served_by 0 after law
             (subst (Holds jobs line_by_place (schedule (set slots s 0)) (suc s) m) (sym same) (holds_idle jobs line_by_place (schedule slots) (schedule (set slots s 0)) s agree admitted m quiet holds))
             (λ e. refl)
-        served_given (Some place) after (i, foremost, is, same) few =
-            let right = holds.only i foremost.waits in
+        served_given (Some place) after (i, job, foremost, is, same) few =
+            let right = holds.only i job foremost.waits in
             let small : place < 65534 = omega (arith, right.there, cursor.within) in
             let agree = written_agrees turn 65535 slots s (suc place) in
-            let serving : schedule (set slots s (suc place)) s ≡ serves (of_line admitted i).place = written turn 65535 slots s (suc place) there ∙ turn_place place small ∙ ap serves is in
-            let law = next_serves g jobs (schedule slots) (schedule (set slots s (suc place))) s agree (of_line admitted i).place given serving (foremost_first jobs line_by_place (schedule slots) s m admitted holds cursor i foremost) in
+            let serving : schedule (set slots s (suc place)) s ≡ serves job.rank.place = written turn 65535 slots s (suc place) there ∙ turn_place place small ∙ ap serves is in
+            let law = next_serves g jobs (schedule slots) (schedule (set slots s (suc place))) s agree job.rank.place given serving (foremost_first jobs line_by_place (schedule slots) s m admitted holds cursor i job foremost) in
             served_by (suc place) after law
-            (subst (Holds jobs line_by_place (schedule (set slots s (suc place))) (suc s) m) (sym same) (holds_served jobs line_by_place (schedule slots) (schedule (set slots s (suc place))) s agree admitted m i foremost.waits serving holds))
+            (subst (Holds jobs line_by_place (schedule (set slots s (suc place))) (suc s) m) (sym same) (holds_served jobs line_by_place (schedule slots) (schedule (set slots s (suc place))) s agree admitted m i job foremost.waits serving holds))
             (given_idle (Some place) small)
 
-  module _ (slots : List ℕ) (s n : ℕ) (table : List Ready) (served : Served g jobs line_by_place slots s n table) where
+  module _ (slots : List ℕ) (s n : ℕ) (table : List (Option Ready)) (served : Served g jobs line_by_place slots s n table) where
     -- the run goes on where all that wait are due later
-    pub filled_more : ((i : ℕ) → Waits table i → suc s < (of_line table i).deadline) → Filled g jobs line_by_place slots (suc s) n table
+    pub filled_more : ((i : ℕ) (job : Ready) → Waits table i job → suc s < job.rank.deadline) → Filled g jobs line_by_place slots (suc s) n table
     filled_more later =
         let cursor = served.cursor in
         record {
@@ -185,10 +190,10 @@ module _ (g : ℕ → ℕ) (jobs : List Job) (line_by_place : ℕ → ℕ) (keep
         }
 
     -- and ends at the foremost job where that is overdue
-    pub filled_missed : (b i place : ℕ) → Foremost table i → (of_line table i).deadline ≤ suc s → place ≡ (of_line table i).place → Runs g jobs b (schedule slots) (missed place (suc s))
-    filled_missed b i place foremost overdue is =
-        subst (λ k. Runs g jobs b (schedule slots) (missed k (suc s))) (sym is) (overdue_missed g jobs line_by_place (schedule slots) s n table keeping served.holds served.cursor b i served.underway foremost overdue)
+    pub filled_missed : (b i place : ℕ) (job : Ready) → Foremost table i job → job.rank.deadline ≤ suc s → place ≡ job.rank.place → Runs g jobs b (schedule slots) (missed place (suc s))
+    filled_missed b i place job foremost overdue is =
+        subst (λ k. Runs g jobs b (schedule slots) (missed k (suc s))) (sym is) (overdue_missed g jobs line_by_place (schedule slots) s n table keeping served.holds served.cursor b i job served.underway foremost overdue)
 
   -- the end, with every deadline met
-  pub filled_met : (slots : List ℕ) (b n : ℕ) (table : List Ready) → DueBy jobs b → Filled g jobs line_by_place slots b n table → Runs g jobs b (schedule slots) met
+  pub filled_met : (slots : List ℕ) (b n : ℕ) (table : List (Option Ready)) → DueBy jobs b → Filled g jobs line_by_place slots b n table → Runs g jobs b (schedule slots) met
   filled_met slots b n table due filled = underway_met g jobs (schedule slots) b due filled.underway filled.done

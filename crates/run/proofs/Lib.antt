@@ -3,3 +3,5 @@ pub mod Choosing
 pub mod Admitting
 pub mod Filling
 pub mod Passing
+pub mod Least
+pub mod Listed

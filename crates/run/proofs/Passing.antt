@@ -1,7 +1,8 @@
 -- What the checks of a list leave: how one job after another passes, and what a list keeps whose jobs all did.
 use Rattle.std.proofs.Common.{◌≡◌, ℕ, zero, suc, ◌+◌, ◌<◌, ◌≤◌, max, Bool, true, false, ◌&&◌, ◌||◌, eqb, ltb, leb, ◌⊎◌, List, [], ◌∷◌, ◌++◌, length, get_or, set, replicate, Some, None, Option, sym, refl, ap, ◌∙◌, subst, inl, inr, ⊎_elim, add-one, arith}
 use Rattle.edf.specs.Jobs.{Job as Timed, job, DueBy}
-use Rattle.lines.specs.Demand.{AllLawful}
+use Rattle.lines.specs.Calls.{outside}
+use Rattle.lines.specs.Demand.{Lawful}
 use Rattle.lines.specs.declared.row.Row.{Row}
 use Rattle.refusal.proofs.Checks.{refusal_behind, refusal_first}
 use Rattle.refusal.specs.Answers.{Check, refusal_of}
@@ -56,7 +57,11 @@ module _ (rows : List Row) (jobs : List Job) where
       (λ (m : n ≤ k). let last : n ≡ k = omega arith in subst (λ j. refusal_of (job_checks rows jobs j) ≡ None) last parts.1)
       (cases_lt k n)
 
--- What is known of the first n jobs once they passed: the last release, from when on each line may release again, and the largest deadline.
+-- The line of a job is one of 8, and lawful.
+abbrev pub Kept : List Row → List Job → ℕ → Type 0
+Kept rows jobs k = (line_at jobs k < 8) × Lawful (figures rows (line_at jobs k))
+
+-- What is known of the first n jobs once they passed: their lines, the last release, from when on each line may release again, and the largest deadline.
 pub record Passed (rows : List Row) (jobs : List Job) (n last : ℕ) (free : List ℕ) (reach : ℕ) : Type 0 where
   pub room : length free ≡ 8
   pub front : last ≡ in_front jobs n
@@ -64,6 +69,7 @@ pub record Passed (rows : List Row) (jobs : List Job) (n last : ℕ) (free : Lis
   pub reached : reach ≡ largest rows jobs n
   pub within : reach ≤ 32000
   pub passed : refusal_of (first_checks rows jobs n) ≡ None
+  pub kept : (k : ℕ) → k < n → Kept rows jobs k
 
 -- three checks of which none fails
 three_pass : (a b c : Bool) (x y z : Refusal) → refusal_of (record { fails = a; refusal = x } ∷ record { fails = b; refusal = y } ∷ record { fails = c; refusal = z } ∷ []) ≡ None → (a ≡ false) × (b ≡ false) × (c ≡ false)
@@ -74,8 +80,8 @@ three_pass false false false x y z e = (refl, refl, refl)
 
 -- What a job keeps that passed its checks.
 record Fit (rows : List Row) (jobs : List Job) (k : ℕ) : Type 0 where
-  lined : (at jobs k).line < length rows
   ordered : in_front jobs k ≤ (at jobs k).release
+  wanting : 0 < (at jobs k).cost
   far : near rows jobs (at jobs k).line k (at jobs k).release ≡ false
   due : (timed rows (at jobs k)).deadline ≤ 32000
 
@@ -83,8 +89,9 @@ job_fit : (rows : List Row) (jobs : List Job) (k : ℕ) → refusal_of (job_chec
 job_fit rows jobs k passes =
     let passed = three_pass (out_of_range rows (at jobs k)) (too_soon rows jobs k) (ltb 32000 (timed rows (at jobs k)).deadline) _ _ _ passes in
     let soon = or_parts (ltb (at jobs k).release (in_front jobs k)) (near rows jobs (at jobs k).line k (at jobs k).release) passed.1 in
+    let in_range = or_parts (leb (length rows) (at jobs k).line) (outside 1 (figures rows (at jobs k).line).cost (at jobs k).cost) passed.0 in
     record {
-      lined = leb-false (length rows) (at jobs k).line (or_parts (leb (length rows) (at jobs k).line) _ passed.0).0;
+      wanting = let some = ltb-false (at jobs k).cost 1 (or_parts (ltb (at jobs k).cost 1) _ in_range.1).0 in omega arith;
       ordered = ltb-false (at jobs k).release (in_front jobs k) soon.0;
       far = soon.1;
       due = ltb-false 32000 (timed rows (at jobs k)).deadline passed.2;
@@ -98,7 +105,7 @@ module _ (rows : List Row) (jobs : List Job) where
   pub passed_none : Passed rows jobs 0 0 (replicate 8 0) 0
   unfolding near largest first_checks
   passed_none =
-      record { room = refl; front = refl; lines = λ i r. sym (le-ltb r _ (omega (arith, zeros i))); reached = refl; within = omega arith; passed = refl }
+      record { room = refl; front = refl; lines = λ i r. sym (le-ltb r _ (omega (arith, zeros i))); reached = refl; within = omega arith; passed = refl; kept = λ k l. absurd (omega arith) }
 
   module _ (n last : ℕ) (free : List ℕ) (reach : ℕ) (state : Passed rows jobs n last free reach) where
     -- the checks that are made are those of the job
@@ -108,7 +115,7 @@ module _ (rows : List Row) (jobs : List Job) where
         (ap (λ r. ltb (at jobs n).release r || ltb (at jobs n).release (get_or free (at jobs n).line 0)) state.front
         ∙ ap (λ b. ltb (at jobs n).release (in_front jobs n) || b) (sym (state.lines (at jobs n).line (at jobs n).release)))
 
-    module _ (passes : refusal_of (job_checks rows jobs n) ≡ None) (lined : (at jobs n).line < 8) where
+    module _ (passes : refusal_of (job_checks rows jobs n) ≡ None) (kept : Kept rows jobs n) where
       -- a line may release again a period after the job, and not earlier than before
       lines_more : (i r : ℕ) → near rows jobs i (suc n) r ≡ ltb r (get_or (set free (at jobs n).line ((at jobs n).release + (figures rows (at jobs n).line).period)) i 0)
       unfolding near
@@ -119,7 +126,7 @@ module _ (rows : List Row) (jobs : List Job) where
               let before = state.lines i r in
               let far : ltb (at jobs n).release (get_or free (at jobs n).line 0) ≡ false = sym (state.lines (at jobs n).line (at jobs n).release) ∙ (job_fit rows jobs n passes).far in
               let still = ltb-false (at jobs n).release (get_or free (at jobs n).line 0) far in
-              let now = get_or-set_same free (at jobs n).line ((at jobs n).release + (figures rows (at jobs n).line).period) 0 (omega (arith, state.room)) in
+              let now = get_or-set_same free (at jobs n).line ((at jobs n).release + (figures rows (at jobs n).line).period) 0 (omega (arith, state.room, kept.0)) in
               let same = ap (λ j. get_or free j 0) here in
               let period = ap (λ j. (figures rows j).period) here in
               let index = ap (λ j. get_or (set free (at jobs n).line ((at jobs n).release + (figures rows (at jobs n).line).period)) j 0) here in
@@ -140,16 +147,12 @@ module _ (rows : List Row) (jobs : List Job) where
             reached = omega (arith, state.reached);
             within = omega (arith, state.within);
             passed = first_passed rows jobs n state.passed passes;
+            kept = λ k l. ⊎_elim (λ (m : k < n). state.kept k m) (λ (m : n ≤ k). let last : n ≡ k = omega arith in subst (Kept rows jobs) last kept) (cases_lt k n);
           }
 
       -- the same, by what the code computes
-      pub passed_more : (i reach' : ℕ) (row : Row) → i ≡ (at jobs n).line → row ≡ figures rows (at jobs n).line → reach' ≡ max ((at jobs n).release + row.deadline) reach → Passed rows jobs (n + 1) (at jobs n).release (set free i ((at jobs n).release + row.period)) reach'
-      passed_more i reach' row index same most =
-          let reached = most ∙ ap (λ (f : Row). max ((at jobs n).release + f.deadline) reach) same in
-          let freed = ap (λ j. set free j ((at jobs n).release + row.period)) index ∙ ap (λ (f : Row). set free (at jobs n).line ((at jobs n).release + f.period)) same in
-          subst (λ m. Passed rows jobs m (at jobs n).release (set free i ((at jobs n).release + row.period)) reach') (sym (add-one n))
-          (subst (λ fs. Passed rows jobs (suc n) (at jobs n).release fs reach') (sym freed)
-          (subst (Passed rows jobs (suc n) (at jobs n).release (set free (at jobs n).line ((at jobs n).release + (figures rows (at jobs n).line).period))) (sym reached) passed_next))
+      pub passed_more : (last' : ℕ) (free' : List ℕ) (reach' : ℕ) → last' ≡ (at jobs n).release → free' ≡ set free (at jobs n).line ((at jobs n).release + (figures rows (at jobs n).line).period) → reach' ≡ max (timed rows (at jobs n)).deadline reach → Passed rows jobs (n + 1) last' free' reach'
+      passed_more last' free' reach' a b c = rw (add-one n, a, b, c) passed_next
 
   -- every job is due by the largest deadline
   pub largest_at : (n k : ℕ) → k < n → (timed rows (at jobs k)).deadline ≤ largest rows jobs n
@@ -175,7 +178,7 @@ module _ (rows : List Row) (jobs : List Job) where
       (λ (m : n ≤ j). let last : n ≡ j = omega arith in let here = parts.1 in let own = ap (λ k. (at jobs k).line) last in let release = ap (λ k. (at jobs k).release) last in grind arith)
       (cases_lt j n)
 
-  module _ (lawful : AllLawful rows) (few : length rows ≤ 8) (passed : refusal_of (first_checks rows jobs (length jobs)) ≡ None) where
+  module _ (passed : refusal_of (first_checks rows jobs (length jobs)) ≡ None) (kept : (k : ℕ) → k < length jobs → Kept rows jobs k) where
     fit : (k : ℕ) → k < length jobs → Fit rows jobs k
     fit k there = job_fit rows jobs k (passed_at rows jobs (length jobs) passed k there)
 
@@ -188,17 +191,21 @@ module _ (rows : List Row) (jobs : List Job) where
     pub passed_keeping : Keeping (timed_list rows jobs) (line_at jobs)
     passed_keeping =
         record {
-          lined = λ k l. omega (arith, (fit k (in_list k l)).lined);
+          lined = λ k l. (kept k (in_list k l)).0;
           ordered = λ j k le l.
               let there = in_list k l in
               let first = ap (λ (t : Timed). t.release) (timed_at rows jobs j (omega arith)) in
               let second = ap (λ (t : Timed). t.release) (timed_at rows jobs k there) in
               omega (arith, in_order j k le there);
+          wanting = λ k l.
+              let there = in_list k l in
+              let cost = ap (λ (t : Timed). t.cost) (timed_at rows jobs k there) in
+              omega (arith, (fit k there).wanting);
           lasting = λ k l.
               let there = in_list k l in
               let release = ap (λ (t : Timed). t.release) (timed_at rows jobs k there) in
               let deadline = ap (λ (t : Timed). t.deadline) (timed_at rows jobs k there) in
-              omega (arith, (lawful (at jobs k).line (fit k there).lined).0);
+              omega (arith, (kept k there).1.0);
           apart = λ j k l there same. apart j k l (in_list k there) same;
         }
       where
@@ -211,7 +218,7 @@ module _ (rows : List Row) (jobs : List Job) where
             let release = ap (λ (t : Timed). t.release) (timed_at rows jobs k there) in
             let period = far_at (at jobs k).line k (at jobs k).release (fit k there).far j l same in
             let own = ap (λ i. (figures rows i).deadline) same in
-            omega (arith, (lawful (at jobs k).line (fit k there).lined).1)
+            omega (arith, (kept k there).1.1)
 
 module _ (rows : List Row) (jobs : List Job) where
   -- a list that is taken has few jobs, and all passed

@@ -4,8 +4,8 @@ ghost use Rattle.run.specs.Checks.{run_checks};
 ghost use Rattle.run.specs.Promise.{ByLaw, WellWritten, MetExactly, MissFinal};
 ghost use Rattle.std.specs.Prelude.{◌≡◌, length, IfOk, OnErr};
 
-use crate::checks::{check_jobs, refused};
-use crate::follow::{clear, follow};
+use crate::checked::Checked;
+use crate::checks::refused;
 use crate::job::Job;
 use crate::outcome::Outcome;
 use lines::Lines;
@@ -28,10 +28,9 @@ pub fn run<S: Supply>(
     ensures met_exactly { IfOk result (λ o. MetExactly (S.meaning supply.now) phase (rows_of lines.now) jobs.now slots.new o) }
     ensures miss_is_final { IfOk result (λ o. MissFinal (S.meaning supply.now) phase (rows_of lines.now) jobs.now o) }
 {
-    let end = check_jobs(lines, jobs)?;
-    if slots.len() < usize::from(end) {
-        return Err(refused(Reason::ListTooShort, u32::from(end)));
+    let list = Checked::new(lines, jobs)?;
+    if slots.len() < usize::from(list.last_deadline) {
+        return Err(refused(Reason::ListTooShort, u32::from(list.last_deadline)));
     }
-    clear(slots);
-    Ok(follow(supply, phase, lines, jobs, end, slots))
+    Ok(list.follow(supply, phase, slots))
 }

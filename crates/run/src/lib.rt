@@ -2,11 +2,13 @@
 #![tactic(auto)]
 
 mod call;
+mod checked;
 mod checks;
 mod follow;
 mod job;
 mod outcome;
 mod ready;
+mod releases;
 mod table;
 
 pub use call::run;

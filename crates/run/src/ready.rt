@@ -1,20 +1,28 @@
-ghost use Rattle.run.specs.Ready.{Leads};
-ghost use Rattle.std.specs.Prelude.{MatchBool};
+ghost use Rattle.std.specs.Prelude.{◌≡◌, ◌<◌};
+ghost use Rattle.run.specs.Ready.{served};
 
-// A released job of the ready table: its place, its deadline, and the slots that it still wants; 0 when it is finished.
+// A job's turn among those that are ready: what is due first goes first, and of jobs that are due together the one whose
+// place is lowest. The derived order compares the fields from the first on.
+#[derive(Clone, Copy, PartialEq, Eq, PartialOrd, Ord)]
+pub(crate) struct Rank {
+    pub(crate) deadline: u16,
+    pub(crate) place: u16,
+}
+
+// A released job that is not finished: its rank, and the slots that it still wants.
 #[derive(Clone, Copy)]
 pub(crate) struct Ready {
-    pub(crate) place: u16,
-    pub(crate) deadline: u16,
+    pub(crate) rank: Rank,
     pub(crate) left: u16,
 }
 
 impl Ready {
-    // Whether this job is due before another, or at the same instant and its place is no higher.
-    pub(crate) fn leads(self, other: Ready) -> bool
-        ensures { MatchBool result (Leads self other) (Leads other self) }
+    // The job after a slot that it got, if it wants another.
+    pub(crate) fn served(self) -> Option<Ready>
+        requires { 0 < self.left }
+        ensures { result ≡ served self }
     {
-        self.deadline < other.deadline
-            || self.deadline == other.deadline && self.place <= other.place
+        let left = self.left - 1;
+        (left > 0).then_some(Ready { left, ..self })
     }
 }

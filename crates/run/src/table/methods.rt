@@ -1,85 +1,50 @@
-ghost use Rattle.std.specs.Prelude.{◌≡◌, ℕ, ◌+◌, ◌<◌, ◌≤◌, MatchOption, slice_set};
-ghost use Rattle.run.specs.Ready.{of_line, Waits, Foremost, ForemostTo, Serves};
+ghost use Rattle.std.specs.Prelude.{◌≡◌, ℕ, ◌<◌, ◌≤◌, Some, MatchOption, slice_set};
+ghost use Rattle.run.specs.Ready.{Waits, NoneWaits, Foremost, Serves};
 
 use crate::ready::Ready;
 use crate::table::Table;
 
-// The job of a line that has released none.
-const NOBODY: Ready = Ready {
-    place: 0,
-    deadline: 0,
-    left: 0,
-};
-
 impl Table {
     // The table in which no job waits.
     pub(crate) fn none() -> Table
-        ensures { (i : ℕ) → Waits result.jobs i → ⊥ }
+        ensures { NoneWaits result.jobs }
     {
-        Table { jobs: [NOBODY; 8] }
+        Table { jobs: [None; 8] }
     }
 
     // Puts a released job in its line's place.
     pub(crate) fn put(&mut self, line: usize, job: Ready)
-        requires { line < 8 }
-        ensures { self.new.jobs ≡ slice_set self.old.jobs line job }
+        requires { (line < 8) × (0 < job.left) }
+        ensures { self.new.jobs ≡ slice_set self.old.jobs line (Some job) }
     {
-        self.jobs[line] = job;
+        self.jobs[line] = Some(job);
     }
 
-    // The foremost of the lines up to one, from that of the lines before it.
-    fn further(&self, best: Option<usize>, line: usize) -> Option<usize>
-        requires { (line < 8) × ForemostTo self.now.jobs line best }
-        ensures { ForemostTo self.now.jobs (line + 1) result }
+    // The foremost job, behind its line, if one waits.
+    fn foremost(&self) -> Option<(usize, Ready)>
+        ensures { MatchOption result (NoneWaits self.now.jobs) (λ first. Foremost self.now.jobs first.0 first.1) }
     {
-        let job = self.jobs[line];
-        if job.left == 0 {
-            return best;
-        }
-        let Some(first) = best else {
-            return Some(line);
-        };
-        if self.jobs[first].leads(job) {
-            best
-        } else {
-            Some(line)
-        }
-    }
-
-    // The line whose job is foremost, if one waits.
-    fn foremost(&self) -> Option<usize>
-        ensures { MatchOption result ((i : ℕ) → Waits self.now.jobs i → ⊥) (λ i. (i < 8) × Foremost self.now.jobs i) }
-    {
-        let mut best = None;
-        for line in 0..8 {
-            best = self.further(best, line);
-        }
-        best
+        self.jobs
+            .iter()
+            .enumerate()
+            .filter_map(|(line, job)| Some((line, (*job)?)))
+            .min_by_key(|(_, job)| job.rank)
     }
 
     // The place of the foremost job, if it is overdue at an instant.
     pub(crate) fn overdue(&self, at: u16) -> Option<u16>
-        ensures { MatchOption result ((i : ℕ) → Waits self.now.jobs i → at < (of_line self.now.jobs i).deadline) (λ place. (i : ℕ) × Foremost self.now.jobs i × ((of_line self.now.jobs i).deadline ≤ at) × (place ≡ (of_line self.now.jobs i).place)) }
+        ensures { MatchOption result ((i : ℕ) (job : _) → Waits self.now.jobs i job → at < job.rank.deadline) (λ place. (i : ℕ) × (job : _) × Foremost self.now.jobs i job × (job.rank.deadline ≤ at) × (place ≡ job.rank.place)) }
     {
-        let Some(line) = self.foremost() else {
-            return None;
-        };
-        if self.jobs[line].deadline > at {
-            return None;
-        }
-        Some(self.jobs[line].place)
+        let (_, job) = self.foremost()?;
+        (job.rank.deadline <= at).then_some(job.rank.place)
     }
 
     // Gives a slot to the foremost job and answers its place, if one waits.
     pub(crate) fn serve(&mut self) -> Option<u16>
         ensures { Serves self.old.jobs result self.new.jobs }
     {
-        let Some(line) = self.foremost() else {
-            return None;
-        };
-        let mut job = self.jobs[line];
-        job.left -= 1;
-        self.jobs[line] = job;
-        Some(job.place)
+        let (line, job) = self.foremost()?;
+        self.jobs[line] = job.served();
+        Some(job.rank.place)
     }
 }
