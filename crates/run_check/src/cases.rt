@@ -1,5 +1,5 @@
 // Runs with known answers, and the edges of the checks.
-use crate::trial::tried;
+use crate::trial::{Case, Trial};
 use anyhow::anyhow;
 use lines::Row;
 use run::Job;
@@ -22,154 +22,129 @@ fn job(line: u8, release: u16, cost: u16) -> Job {
     }
 }
 
+// The three lines of most cases.
+const ROWS: [Row; 3] = [
+    Row {
+        period: 7,
+        deadline: 5,
+        cost: 3,
+    },
+    Row {
+        period: 11,
+        deadline: 7,
+        cost: 3,
+    },
+    Row {
+        period: 13,
+        deadline: 10,
+        cost: 4,
+    },
+];
+
+// Jobs of the three lines on the whole processor.
+fn on_whole<'a>(jobs: &'a [Job], slots: usize) -> Case<'a, Whole> {
+    Case {
+        rows: &ROWS,
+        jobs,
+        supply: &Whole,
+        phase: 0,
+        slots,
+    }
+}
+
 // A list of jobs of line 0 with a cost of 1, so far apart.
 fn regular(heap: Global, many: u16, apart: u16) -> Result<Vec<Job>, AllocError> {
-    let mut jobs = Vec::new(heap);
-    for k in 0..many {
-        jobs.push(job(0, k.wrapping_mul(apart), 1))?;
-    }
-    Ok(jobs)
+    (0..many)
+        .map(|k| job(0, k.wrapping_mul(apart), 1))
+        .collect(heap)
 }
 
-// Tells how a run of one line's jobs on the whole processor ends.
-fn told(rt: &HostRuntime, name: &str, row: Row, jobs: &[Job], many: usize) -> anyhow::Result<()> {
-    match tried(rt.alloc(), &Whole, 0, &[row], jobs, many)?.answer {
-        Ok(outcome) => println!(rt; "{name}: {outcome}")?,
-        Err(refusal) => println!(rt; "{name}: {refusal}")?,
-    }
-    Ok(())
+// Tells how the run of a case ends.
+fn told<S: Supply>(rt: &HostRuntime, name: &str, case: &Case<S>) -> anyhow::Result<Trial> {
+    let trial = case.tried(rt.alloc())?;
+    println!(rt; "{name}: {trial}")?;
+    Ok(trial)
 }
 
-// Tells how a run of jobs of three lines ends, and what the slots then hold.
-fn shown<S: Supply>(
-    rt: &HostRuntime,
-    name: &str,
-    supply: &S,
-    phase: u32,
-    jobs: &[Job],
-    many: usize,
-) -> anyhow::Result<()> {
-    let rows = &[row(7, 5, 3), row(11, 7, 3), row(13, 10, 4)];
-    let trial = tried(rt.alloc(), supply, phase, rows, jobs, many)?;
-    match trial.answer {
-        Ok(outcome) => println!(rt; "{name}: {outcome}")?,
-        Err(refusal) => println!(rt; "{name}: {refusal}")?,
-    }
-    let slots = &trial.slots;
+// Tells how the run of a case ends, and what the slots then hold.
+fn shown<S: Supply>(rt: &HostRuntime, name: &str, case: &Case<S>) -> anyhow::Result<()> {
+    let slots = told(rt, name, case)?.slots;
     println!(rt; "  {slots:?}")?;
     Ok(())
 }
 
 // Lists on every second slot, those of odd number in phase 0 and of even number in phase 1.
 fn on_part(rt: &HostRuntime) -> anyhow::Result<()> {
-    let Ok(timetable) = Timetable::new(2, 2) else {
-        return Err(anyhow!("every second slot is a timetable"));
-    };
-    shown(
-        rt,
-        "every second slot",
-        &timetable,
-        0,
-        &[job(0, 1, 2), job(2, 1, 2)],
-        13,
-    )?;
-    shown(
-        rt,
-        "a phase far above 2",
-        &timetable,
-        u32::MAX,
-        &[job(0, 1, 2), job(2, 1, 2)],
-        13,
-    )
+    let timetable = Timetable::new(2, 2).map_err(|_| anyhow!("every second slot is a timetable"))?;
+    let jobs = &[job(0, 1, 2), job(2, 1, 2)];
+    let mut case = on_whole(jobs, 13).on(&timetable);
+    shown(rt, "every second slot", &case)?;
+    case.phase = u32::MAX;
+    shown(rt, "a phase far above 2", &case)
 }
 
 // The jobs of three lines from 0 on with deadlines up to 12, and other lists that are taken.
 fn taken(rt: &HostRuntime) -> anyhow::Result<()> {
     let jobs = &[job(0, 0, 3), job(1, 0, 3), job(2, 0, 4), job(0, 7, 3)];
-    shown(rt, "overload", &Whole, 0, jobs, 14)?;
+    shown(rt, "overload", &on_whole(jobs, 14))?;
     let jobs = &[job(0, 0, 3), job(1, 0, 3), job(2, 0, 3), job(0, 7, 3)];
-    shown(rt, "one slot less", &Whole, 0, jobs, 14)?;
-    shown(
-        rt,
-        "one deadline, two places",
-        &Whole,
-        0,
-        &[job(1, 3, 3), job(0, 5, 2)],
-        11,
-    )?;
+    shown(rt, "one slot less", &on_whole(jobs, 14))?;
+    let jobs = &[job(1, 3, 3), job(0, 5, 2)];
+    shown(rt, "one deadline, two places", &on_whole(jobs, 11))?;
     on_part(rt)?;
-    shown(rt, "no jobs, no slots", &Whole, u32::MAX, &[], 0)?;
-    shown(rt, "no jobs, 3 slots", &Whole, 0, &[], 3)
+    let mut case = on_whole(&[], 0);
+    case.phase = u32::MAX;
+    shown(rt, "no jobs, no slots", &case)?;
+    shown(rt, "no jobs, 3 slots", &on_whole(&[], 3))
 }
 
 // Lists that are refused for one of their jobs, or for want of slots.
 fn refused(rt: &HostRuntime) -> anyhow::Result<()> {
-    shown(rt, "line 8", &Whole, 0, &[job(8, 0, 1)], 2)?;
-    shown(
-        rt,
-        "line 255",
-        &Whole,
-        0,
-        &[job(0, 0, 1), job(255, 0, 1)],
-        2,
-    )?;
-    shown(rt, "cost 0", &Whole, 0, &[job(0, 0, 0)], 2)?;
-    shown(rt, "cost over the line's", &Whole, 0, &[job(0, 0, 4)], 2)?;
-    shown(
-        rt,
-        "out of order",
-        &Whole,
-        0,
-        &[job(0, 3, 1), job(1, 2, 1)],
-        2,
-    )?;
+    shown(rt, "line 8", &on_whole(&[job(8, 0, 1)], 2))?;
+    let jobs = &[job(0, 0, 1), job(255, 0, 1)];
+    shown(rt, "line 255", &on_whole(jobs, 2))?;
+    shown(rt, "cost 0", &on_whole(&[job(0, 0, 0)], 2))?;
+    shown(rt, "cost over the line's", &on_whole(&[job(0, 0, 4)], 2))?;
+    let jobs = &[job(0, 3, 1), job(1, 2, 1)];
+    shown(rt, "out of order", &on_whole(jobs, 2))?;
     let jobs = &[job(0, 0, 1), job(1, 0, 1), job(0, 6, 1)];
-    shown(rt, "nearer than a period", &Whole, 0, jobs, 2)?;
-    shown(
-        rt,
-        "too short by one",
-        &Whole,
-        0,
-        &[job(2, 0, 1), job(0, 1, 1)],
-        9,
-    )?;
-    shown(
-        rt,
-        "just long enough",
-        &Whole,
-        0,
-        &[job(2, 0, 1), job(0, 1, 1)],
-        10,
-    )
+    shown(rt, "nearer than a period", &on_whole(jobs, 2))?;
+    let jobs = &[job(2, 0, 1), job(0, 1, 1)];
+    shown(rt, "too short by one", &on_whole(jobs, 9))?;
+    shown(rt, "just long enough", &on_whole(jobs, 10))
+}
+
+// Tells how a run of one line's jobs on the whole processor ends.
+fn one_line(
+    rt: &HostRuntime,
+    name: &str,
+    row: Row,
+    jobs: &[Job],
+    slots: usize,
+) -> anyhow::Result<()> {
+    let rows = [row];
+    let case = Case {
+        rows: &rows,
+        jobs,
+        supply: &Whole,
+        phase: 0,
+        slots,
+    };
+    let _ = told(rt, name, &case)?;
+    Ok(())
 }
 
 // The most jobs, the last deadline, and one more of each.
 fn largest(rt: &HostRuntime) -> anyhow::Result<()> {
+    let short = row(15, 15, 1);
     let jobs = regular(rt.alloc(), 2_048, 15)?;
-    told(rt, "2048 jobs", row(15, 15, 1), jobs.as_slice(), 32_000)?;
+    one_line(rt, "2048 jobs", short, jobs.as_slice(), 32_000)?;
     let jobs = regular(rt.alloc(), 2_049, 15)?;
-    told(rt, "2049 jobs", row(15, 15, 1), jobs.as_slice(), 32_000)?;
-    told(
-        rt,
-        "due at 32000",
-        row(1_000, 1_000, 1),
-        &[job(0, 31_000, 1)],
-        32_000,
-    )?;
-    told(
-        rt,
-        "due at 32001",
-        row(1_000, 1_000, 1),
-        &[job(0, 31_001, 1)],
-        32_001,
-    )?;
-    told(
-        rt,
-        "released at 65535",
-        row(1_000, 1_000, 1),
-        &[job(0, 65_535, 1)],
-        32_001,
-    )
+    one_line(rt, "2049 jobs", short, jobs.as_slice(), 32_000)?;
+    let long = row(1_000, 1_000, 1);
+    one_line(rt, "due at 32000", long, &[job(0, 31_000, 1)], 32_000)?;
+    one_line(rt, "due at 32001", long, &[job(0, 31_001, 1)], 32_001)?;
+    one_line(rt, "released at 65535", long, &[job(0, 65_535, 1)], 32_001)
 }
 
 pub(crate) fn show(rt: &HostRuntime) -> anyhow::Result<()> {

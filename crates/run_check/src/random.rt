@@ -1,10 +1,10 @@
 // Random lists of jobs, each run on the whole processor, a timetable and a share, against the slow simulation.
-use crate::trial::{Trial, agrees, lines_of, tried};
+use crate::trial::{Case, Trial, lines_of};
 use anyhow::anyhow;
 use lines::Row;
 use run::{Job, Outcome};
 use std::alloc::{AllocError, Global};
-use supply::{Share, Timetable, Whole};
+use supply::{Share, Supply, Timetable, Whole};
 
 // Numbers that look random, the same on each run.
 #[derive(Clone, Copy)]
@@ -68,28 +68,23 @@ fn rows(heap: Global, dice: &mut Dice) -> Result<Vec<Row>, AllocError> {
 
 // Whether a job of a line may be released at an instant behind some others.
 fn may(jobs: &[Job], line: u8, period: u16, at: u16) -> bool {
-    for job in jobs {
-        if job.line == line && u32::from(at) < u32::from(job.release) + u32::from(period) {
-            return false;
-        }
-    }
-    true
+    jobs.iter().all(|job| {
+        job.line != line || u32::from(at) >= u32::from(job.release) + u32::from(period)
+    })
 }
 
 // Jobs of some lines that pass the checks.
 fn jobs(heap: Global, dice: &mut Dice, rows: &[Row]) -> Result<Vec<Job>, AllocError> {
     let mut jobs = Vec::new(heap);
     for release in 0..40 {
-        for line in 0..8u8 {
-            if let Some(row) = rows.get(usize::from(line)) {
-                if dice.below(5) == 0 && may(jobs.as_slice(), line, row.period, release) {
-                    let cost = dice.up_to(row.cost);
-                    jobs.push(Job {
-                        line,
-                        release,
-                        cost,
-                    })?;
-                }
+        for (line, row) in (0..8u8).zip(rows) {
+            if dice.below(5) == 0 && may(jobs.as_slice(), line, row.period, release) {
+                let cost = dice.up_to(row.cost);
+                jobs.push(Job {
+                    line,
+                    release,
+                    cost,
+                })?;
             }
         }
     }
@@ -111,15 +106,24 @@ fn spoil(dice: &mut Dice, jobs: &mut Vec<Job>) {
     }
 }
 
+// Runs a case, and adds how it ended to a tally.
+fn counted<S: Supply>(
+    heap: Global,
+    tally: &mut Tally,
+    case: &Case<S>,
+    pattern: &[bool],
+) -> Result<(), AllocError> {
+    let trial = case.tried(heap)?;
+    let expected = case.expected(heap, pattern)?;
+    tally.add(&trial, trial.agrees(&expected));
+    Ok(())
+}
+
 // Runs random lists and prints how they ended.
 pub(crate) fn compare(rt: &HostRuntime) -> anyhow::Result<()> {
     let heap = rt.alloc();
-    let Ok(timetable) = Timetable::new(2, 2) else {
-        return Err(anyhow!("every second slot is a timetable"));
-    };
-    let Ok(share) = Share::new(Whole, 2, 3) else {
-        return Err(anyhow!("2 in 3 is a share"));
-    };
+    let timetable = Timetable::new(2, 2).map_err(|_| anyhow!("every second slot is a timetable"))?;
+    let share = Share::new(Whole, 2, 3).map_err(|_| anyhow!("2 in 3 is a share"))?;
     let mut dice = Dice { state: 2_026 };
     let mut tally = Tally {
         met: 0,
@@ -129,27 +133,35 @@ pub(crate) fn compare(rt: &HostRuntime) -> anyhow::Result<()> {
     };
     for k in 0..400u32 {
         let rows = rows(heap, &mut dice)?;
-        let mut list = jobs(heap, &mut dice, rows.as_slice())?;
+        let mut jobs = jobs(heap, &mut dice, rows.as_slice())?;
         if k % 4 == 0 {
-            spoil(&mut dice, &mut list);
+            spoil(&mut dice, &mut jobs);
         }
-        let many = usize::from(dice.below(20)).wrapping_add(48);
-        let whole = tried(heap, &Whole, k, rows.as_slice(), list.as_slice(), many)?;
-        let right = agrees(heap, &whole, rows.as_slice(), list.as_slice(), &[true])?;
-        tally.add(&whole, right);
-        let odd = tried(heap, &timetable, k, rows.as_slice(), list.as_slice(), many)?;
-        let pattern = [k % 2 == 1, k % 2 == 0];
-        let right = agrees(heap, &odd, rows.as_slice(), list.as_slice(), &pattern)?;
-        tally.add(&odd, right);
-        let part = tried(heap, &share, k, rows.as_slice(), list.as_slice(), many)?;
-        let pattern = [k % 3 != 2, k % 3 != 1, k % 3 != 0];
-        let right = agrees(heap, &part, rows.as_slice(), list.as_slice(), &pattern)?;
-        tally.add(&part, right);
+        let slots = usize::from(dice.below(20)).wrapping_add(48);
+        let whole = Case {
+            rows: rows.as_slice(),
+            jobs: jobs.as_slice(),
+            supply: &Whole,
+            phase: k,
+            slots,
+        };
+        counted(heap, &mut tally, &whole, &[true])?;
+        let odd = whole.on(&timetable);
+        counted(heap, &mut tally, &odd, &[k % 2 == 1, k % 2 == 0])?;
+        let part = whole.on(&share);
+        counted(
+            heap,
+            &mut tally,
+            &part,
+            &[k % 3 != 2, k % 3 != 1, k % 3 != 0],
+        )?;
     }
-    let met = tally.met;
-    let missed = tally.missed;
-    let refused = tally.refused;
-    let wrong = tally.wrong;
+    let Tally {
+        met,
+        missed,
+        refused,
+        wrong,
+    } = tally;
     println!(rt;
         "random lists: {met} met, {missed} missed, {refused} refused, {wrong} not as the slow simulation says"
     )?;

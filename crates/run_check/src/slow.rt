@@ -12,86 +12,73 @@ struct Task {
     left: u16,
 }
 
-// The deadline of a job, where its line is there.
+// The deadline of a job; its release, where its line isn't there.
 fn deadline(rows: &[Row], job: Job) -> usize {
-    match rows.get(usize::from(job.line)) {
-        Some(row) => usize::from(job.release) + usize::from(row.deadline),
-        None => usize::from(job.release),
-    }
+    let row = rows.get(usize::from(job.line));
+    usize::from(job.release) + row.map_or(0, |row| usize::from(row.deadline))
 }
 
 // The largest deadline.
 fn last_deadline(rows: &[Row], jobs: &[Job]) -> usize {
-    let mut last = 0;
-    for job in jobs {
-        last = deadline(rows, *job).max(last);
-    }
-    last
+    jobs.iter()
+        .map(|job| deadline(rows, *job))
+        .max()
+        .unwrap_or(0)
 }
 
-// What is wrong with the job at a place, by comparing it with each job before it.
-fn fault(rows: &[Row], jobs: &[Job], place: usize) -> Option<Reason> {
-    let job = *jobs.get(place)?;
-    let Some(row) = rows.get(usize::from(job.line)) else {
-        return Some(Reason::JobOutOfRange);
-    };
+// Whether a job may stand behind others, by comparing it with each of them.
+fn may_follow(rows: &[Row], before: &[Job], job: Job) -> Result<(), Reason> {
+    let row = rows
+        .get(usize::from(job.line))
+        .ok_or(Reason::JobOutOfRange)?;
     if job.cost == 0 || job.cost > row.cost {
-        return Some(Reason::JobOutOfRange);
+        return Err(Reason::JobOutOfRange);
     }
-    for (earlier, other) in jobs.iter().enumerate() {
-        if earlier < place {
-            let again = u32::from(other.release) + u32::from(row.period);
-            if other.release > job.release
-                || other.line == job.line && u32::from(job.release) < again
-            {
-                return Some(Reason::JobTooSoon);
-            }
-        }
+    let too_soon = before.iter().any(|other| {
+        let again = u32::from(other.release) + u32::from(row.period);
+        other.release > job.release || other.line == job.line && u32::from(job.release) < again
+    });
+    if too_soon {
+        return Err(Reason::JobTooSoon);
     }
     if deadline(rows, job) > 32_000 {
-        return Some(Reason::TooLarge);
+        return Err(Reason::TooLarge);
     }
-    None
+    Ok(())
 }
 
-// The refusal that a list should get with so many slots, if any.
-pub(crate) fn refusal(rows: &[Row], jobs: &[Job], slots: usize) -> Option<Refusal> {
+// Whether a list may be run with so many slots, and else the refusal that it should get.
+pub(crate) fn allowed(rows: &[Row], jobs: &[Job], slots: usize) -> Result<(), Refusal> {
     if jobs.len() > 2_048 {
-        return Some(Refusal::by(Layer::Run, Reason::TooLarge));
+        return Err(Refusal::by(Layer::Run, Reason::TooLarge));
     }
-    for place in 0..jobs.len() {
-        if let Some(reason) = fault(rows, jobs, place) {
-            return Some(Refusal::by(Layer::Run, reason).at(place as u32));
-        }
+    for (place, job) in jobs.iter().enumerate() {
+        may_follow(rows, &jobs[..place], *job).map_err(|reason| Refusal::by(Layer::Run, reason).at(
+            place as u32,
+        ))?;
     }
     let needed = last_deadline(rows, jobs);
     if slots < needed {
-        return Some(Refusal::by(Layer::Run, Reason::ListTooShort).at(u32::from(small(needed))));
+        return Err(Refusal::by(Layer::Run, Reason::ListTooShort).at(u32::from(small(needed))));
     }
-    None
+    Ok(())
 }
 
 // The lowest place that is due at an instant with work left.
 fn missed(tasks: &[Task], at: usize) -> Option<usize> {
-    for (place, task) in tasks.iter().enumerate() {
-        if task.left > 0 && task.deadline <= at {
-            return Some(place);
-        }
-    }
-    None
+    tasks
+        .iter()
+        .position(|task| task.left > 0 && task.deadline <= at)
 }
 
 // The place of the released job with work left that is due first, the lowest of several.
 fn chosen(tasks: &[Task], at: usize) -> Option<usize> {
-    let mut best = None;
-    let mut due = usize::MAX;
-    for (place, task) in tasks.iter().enumerate() {
-        if task.left > 0 && task.release <= at && task.deadline < due {
-            best = Some(place);
-            due = task.deadline;
-        }
-    }
-    best
+    tasks
+        .iter()
+        .enumerate()
+        .filter(|(_, task)| task.left > 0 && task.release <= at)
+        .min_by_key(|(_, task)| task.deadline)
+        .map(|(place, _)| place)
 }
 
 // Takes one slot off what is left of the job at a place.
@@ -111,15 +98,13 @@ fn given(pattern: &[bool], s: usize) -> bool {
 
 // The jobs of a list with all their work to go.
 fn tasks_of(heap: Global, rows: &[Row], jobs: &[Job]) -> Result<Vec<Task>, AllocError> {
-    let mut tasks = Vec::new(heap);
-    for job in jobs {
-        tasks.push(Task {
+    jobs.iter()
+        .map(|job| Task {
             release: usize::from(job.release),
             deadline: deadline(rows, *job),
             left: job.cost,
-        })?;
-    }
-    Ok(tasks)
+        })
+        .collect(heap)
 }
 
 // Serves a given slot, and tells its entry.
@@ -133,35 +118,37 @@ fn slot(tasks: &mut Vec<Task>, s: usize) -> u16 {
     }
 }
 
-// How a run ends, and its entries up to there.
+// How a run ends, and what so many slots then hold.
 pub(crate) fn simulate(
     heap: Global,
     rows: &[Row],
     jobs: &[Job],
     pattern: &[bool],
+    slots: usize,
 ) -> Result<(Outcome, Vec<u16>), AllocError> {
     let mut tasks = tasks_of(heap, rows, jobs)?;
     let mut entries = Vec::new(heap);
+    let mut outcome = Outcome::Met;
     for s in 0..last_deadline(rows, jobs) {
         if given(pattern, s) {
             entries.push(slot(&mut tasks, s))?;
         } else {
             entries.push(65_535)?;
         }
-        if let Some(place) = missed(tasks.as_slice(), s.saturating_add(1)) {
-            return Ok((
-                Outcome::Missed {
-                    job: small(place),
-                    at: small(s.saturating_add(1)),
-                },
-                entries,
-            ));
+        let at = s.saturating_add(1);
+        if let Some(place) = missed(tasks.as_slice(), at) {
+            outcome = Outcome::Missed {
+                job: small(place),
+                at: small(at),
+            };
+            break;
         }
     }
-    Ok((Outcome::Met, entries))
+    entries.resize(slots, 65_535)?;
+    Ok((outcome, entries))
 }
 
 // A number as 16 bits, or the largest of them.
 fn small(n: usize) -> u16 {
-    n.min(65_535) as u16
+    u16::try_from(n).unwrap_or(u16::MAX)
 }

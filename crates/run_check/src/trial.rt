@@ -1,13 +1,24 @@
 // One run, and whether it is what the slow simulation says.
 use crate::slow;
-use lines::{Lines, Row, WatchList};
+use lines::{Lines, Row};
 use refusal::Refusal;
 use run::{Job, Outcome, run};
 use std::alloc::{AllocError, Global};
+use std::fmt;
 use supply::Supply;
 
 // What every slot holds before a run.
 const BEFORE: u16 = 7;
+
+// What is run: jobs of the lines of some rows, in a phase of a supply, into so many slots.
+#[derive(Drop)]
+pub(crate) struct Case<'a, S: Supply> {
+    pub(crate) rows: &'a [Row],
+    pub(crate) jobs: &'a [Job],
+    pub(crate) supply: &'a S,
+    pub(crate) phase: u32,
+    pub(crate) slots: usize,
+}
 
 // A run: its answer, and what the slots held after it.
 #[derive(Drop)]
@@ -16,60 +27,77 @@ pub(crate) struct Trial {
     pub(crate) slots: Vec<u16>,
 }
 
+// What a person reads of a run's answer.
+impl fmt::Display for Trial {
+    fn fmt<W: fmt::Write>(&self, f: &mut fmt::Formatter<W>) -> fmt::Result {
+        match &self.answer {
+            Ok(outcome) => outcome.fmt(f),
+            Err(refusal) => refusal.fmt(f),
+        }
+    }
+}
+
 // The lines of some rows, up to the first that can't be taken.
 pub(crate) fn lines_of(rows: &[Row]) -> Lines {
-    let mut all = (Lines::none(), WatchList::none());
+    let mut lines = Lines::none();
     for row in rows {
-        match all.0.add(*row) {
-            Ok(more) => all = more,
-            Err(_) => return all.0,
-        }
-    }
-    all.0
-}
-
-// Runs a list of jobs into so many slots.
-pub(crate) fn tried<S: Supply>(
-    heap: Global,
-    supply: &S,
-    phase: u32,
-    rows: &[Row],
-    jobs: &[Job],
-    many: usize,
-) -> Result<Trial, AllocError> {
-    let mut slots = vec![in heap; BEFORE; many]?;
-    let answer = run(supply, phase, &lines_of(rows), jobs, slots.as_mut_slice());
-    Ok(Trial { answer, slots })
-}
-
-// Whether the slots hold some entries and behind them another value.
-fn holds(slots: &[u16], entries: &[u16], behind: u16) -> bool {
-    for (s, slot) in slots.iter().enumerate() {
-        let expected = match entries.get(s) {
-            Some(entry) => *entry,
-            None => behind,
+        let Ok((more, _)) = lines.add(*row) else {
+            break;
         };
-        if *slot != expected {
-            return false;
-        }
+        lines = more;
     }
-    true
+    lines
 }
 
-// Whether a trial ended as the slow simulation does.
-pub(crate) fn agrees(
-    heap: Global,
-    trial: &Trial,
-    rows: &[Row],
-    jobs: &[Job],
-    pattern: &[bool],
-) -> Result<bool, AllocError> {
-    let slots = trial.slots.as_slice();
-    match slow::refusal(rows, jobs, slots.len()) {
-        Some(refusal) => Ok(trial.answer == Err(refusal) && holds(slots, &[], BEFORE)),
-        None => {
-            let (outcome, entries) = slow::simulate(heap, rows, jobs, pattern)?;
-            Ok(trial.answer == Ok(outcome) && holds(slots, entries.as_slice(), 65_535))
+impl<'a, S: Supply> Case<'a, S> {
+    // The same on another supply.
+    pub(crate) fn on<T: Supply>(&self, supply: &'a T) -> Case<'a, T> {
+        Case {
+            rows: self.rows,
+            jobs: self.jobs,
+            supply,
+            phase: self.phase,
+            slots: self.slots,
         }
+    }
+
+    // Runs it.
+    pub(crate) fn tried(&self, heap: Global) -> Result<Trial, AllocError> {
+        let mut slots = vec![in heap; BEFORE; self.slots]?;
+        let lines = lines_of(self.rows);
+        let answer = run(
+            self.supply,
+            self.phase,
+            &lines,
+            self.jobs,
+            slots.as_mut_slice(),
+        );
+        Ok(Trial { answer, slots })
+    }
+
+    // What the run should be, by the slow simulation, where a pattern says which slots are given.
+    pub(crate) fn expected(&self, heap: Global, pattern: &[bool]) -> Result<Trial, AllocError> {
+        match slow::allowed(self.rows, self.jobs, self.slots) {
+            Ok(()) => {
+                let (outcome, slots) = slow::simulate(
+                    heap, self.rows, self.jobs, pattern, self.slots,
+                )?;
+                Ok(Trial {
+                    answer: Ok(outcome),
+                    slots,
+                })
+            }
+            Err(refusal) => Ok(Trial {
+                answer: Err(refusal),
+                slots: vec![in heap; BEFORE; self.slots]?,
+            }),
+        }
+    }
+}
+
+impl Trial {
+    // Whether another run ended in the same way and left the same slots.
+    pub(crate) fn agrees(&self, other: &Trial) -> bool {
+        self.answer == other.answer && self.slots.as_slice() == other.slots.as_slice()
     }
 }
