@@ -12,10 +12,7 @@ impl<S: Supply> Roster<S> {
         ensures { Works (S.meaning self.old.supply) self.old self.new (call_of call.entry) result (λ _. Unit {0}) }
     {
         match call {
-            Call::Enrol(row) => match self.enrol(row) {
-                Ok(_) => Ok(()),
-                Err(refusal) => Err(refusal),
-            },
+            Call::Enrol(row) => self.enrol(row).map(|_| ()),
             Call::Strike(line) => self.strike(line),
             Call::Recost { line, cost } => self.recost(line, cost),
             Call::Cut {

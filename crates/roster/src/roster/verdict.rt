@@ -16,10 +16,8 @@ impl<S: Supply> Roster<S> {
         ensures says { Verdict (S.meaning self.now.supply) (rows_in self.now) (watched_in self.now) result }
         ensures exact { (calls : List Call) → Reached (S.meaning self.now.supply) calls (rows_in self.now) (watched_in self.now) → ExactVerdict (S.meaning self.now.supply) (rows_in self.now) result }
     {
-        match self.watched_overload() {
-            None => None,
-            Some(d) => self.first_overload(d),
-        }
+        let d = self.watched_overload()?;
+        self.first_overload(d)
     }
 
     // Whether the lines ask for more at t than the supply is sure to give.
@@ -34,13 +32,8 @@ impl<S: Supply> Roster<S> {
     fn watched_overload(&self) -> Option<u16>
         ensures { MatchOption result ((d : ℕ) → Has (watched_in self.now) d → Within (S.meaning self.now.supply) (rows_in self.now) d) (λ d. Has (watched_in self.now) d × Exceeds (S.meaning self.now.supply) (rows_in self.now) d) }
     {
-        let list = self.watched.as_slice();
-        for d in list {
-            if self.exceeds(*d) {
-                return Some(*d);
-            }
-        }
-        None
+        let watched = self.watched.as_slice();
+        watched.iter().copied().find(|d| self.exceeds(*d))
     }
 
     // The first deadline up to a last one at which the lines ask for too much, if there is one.

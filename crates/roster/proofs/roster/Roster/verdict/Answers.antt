@@ -4,22 +4,22 @@ use Rattle.roster.proofs.roster.Roster.verdict.Goals as goal
 use Rattle.roster.specs.Working.{rows_in, watched_in}
 use Rattle.std.proofs.Common.{None}
 
-pub returns-in-None : goal.returns-in-None
-returns-in-None g c =
+pub returns-in_err-d : goal.returns-in_err-d
+returns-in_err-d g c =
     let self = c.args.self.now in
     let met = g.met.S.Supply in
-    let says = c.in-None.ensures in
-    record {
+    let says = c.in_err-d.ensures in
+    rw c.from_residual.ensures (record {
       says = says;
       exact = λ calls h. verdict_exact (g.S.Supply.meaning self.supply) (record { counts = met.counts self.supply; windows = met.windows self.supply; attained = met.attained self.supply }) calls (rows_in self) (watched_in self) h None says;
-    }
+    })
 
-pub returns-in-Some : goal.returns-in-Some
-returns-in-Some g c =
+pub returns : goal.returns
+returns g c =
     let self = c.args.self.now in
     let met = g.met.S.Supply in
-    let over = c.in-Some.ensures in
-    let says = verdict_by (g.S.Supply.meaning self.supply) (rows_in self) (watched_in self) c.in-Some.d over.0 over.1 c.first_overload.result c.first_overload.ensures in
+    let over = c.in_ok-d.ensures in
+    let says = verdict_by (g.S.Supply.meaning self.supply) (rows_in self) (watched_in self) c.in_ok-d.d over.0 over.1 c.first_overload.result c.first_overload.ensures in
     record {
       says = says;
       exact = λ calls h. verdict_exact (g.S.Supply.meaning self.supply) (record { counts = met.counts self.supply; windows = met.windows self.supply; attained = met.attained self.supply }) calls (rows_in self) (watched_in self) h c.first_overload.result says;
