@@ -3,6 +3,7 @@ pub mod Each
 pub mod Fitting
 pub mod Going
 pub mod Listed
+pub mod Missing
 pub mod Passing
 pub mod Spelling
 pub mod Walking

@@ -40,10 +40,8 @@ impl<S: Supply> Roster<S> {
     pub fn strike(&mut self, number: u8) -> Result<(), Refusal>
         ensures { Works (S.meaning self.old.supply) self.old self.new (strike number) result (λ _. Unit {0}) }
     {
-        let Some(rest) = self.lines.remove(usize::from(number)) else {
-            return Err(Refusal::by(Layer::Roster, Reason::NoSuchLine).at(u32::from(number)));
-        };
-        let (lines, watched) = rest;
+        let missing = Refusal::by(Layer::Roster, Reason::NoSuchLine).at(u32::from(number));
+        let (lines, watched) = self.lines.remove(usize::from(number)).ok_or(missing)?;
         self.lines = lines;
         self.watched = watched;
         Ok(())
