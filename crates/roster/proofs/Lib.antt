@@ -6,6 +6,7 @@ pub mod Listed
 pub mod Missing
 pub mod Passing
 pub mod Spelling
+pub mod Summing
 pub mod Walking
 pub mod Witnessed
 pub mod Writing

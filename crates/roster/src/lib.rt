@@ -3,6 +3,8 @@
 
 mod call;
 mod certificate;
+mod cite;
+mod cites;
 mod history;
 mod releases;
 mod roster;

@@ -5,7 +5,7 @@ ghost use Rattle.roster.specs.Certificate.{cites_of, cut_checks};
 ghost use Rattle.roster.specs.Working.{rows_in, watched_in, Works};
 ghost use Rattle.std.specs.Prelude.{◌≡◌, [], length};
 
-use crate::certificate::{check_cites, check_counts, check_figures, check_supply};
+use crate::certificate::Certificate;
 use crate::roster::Roster;
 use lines::{Lines, Row, WatchList};
 use refusal::{Layer, Reason, Refusal};
@@ -67,12 +67,12 @@ impl<S: Supply> Roster<S> {
     fn certified(&self, deadline: u16, divisor: u16, cites: &[u8]) -> Result<(), Refusal>
         ensures { Answered result (cut_checks (S.meaning self.now.supply) (rows_in self.now) (watched_in self.now) deadline divisor (cites_of cites.now)) (λ _. Unit {0}) }
     {
-        check_figures(divisor, cites)?;
+        let certificate = Certificate::read(deadline, divisor, cites)?;
         if !self.watched.contains(deadline) {
             return Err(Refusal::by(Layer::Roster, Reason::NotWatched));
         }
-        check_cites(&self.watched, deadline, cites)?;
-        check_counts(&self.lines, deadline, divisor, cites)?;
-        check_supply(&self.supply, deadline, divisor, cites)
+        certificate.check_cited(&self.watched)?;
+        certificate.check_counts(&self.lines)?;
+        certificate.check_supply(&self.supply)
     }
 }
