@@ -27,13 +27,9 @@ fn released_job(number: u8, line: &Line, release: u16, t: u16) -> Option<Job>
     ensures { option_to_list result ≡ released_at number (line.now.row ∷ []) t release }
 {
     let row = line.row();
-    if release % row.period != 0 {
-        return None;
-    }
-    if u32::from(release) + u32::from(row.deadline) > u32::from(t) {
-        return None;
-    }
-    Some(Job {
+    let due = u32::from(release) + u32::from(row.deadline);
+    let releases = release % row.period == 0 && due <= u32::from(t);
+    releases.then_some(Job {
         line: number,
         release,
         cost: row.cost,

@@ -1,25 +1,21 @@
-use Rattle.std.proofs.Common.{◌+◌, ◌%◌, ◌≤◌, [], ◌∷◌, sym, ap, ◌∙◌, arith}
-use Rattle.analysis.proofs.Releases.{released_here, released_nothing, released_late}
+use Rattle.std.proofs.Common.{◌≡◌, ◌+◌, ◌%◌, ◌&&◌, Bool, true, false, cond, eqb, leb, [], ◌∷◌, refl, ap, ◌∙◌, ap₂, arith}
+use Rattle.analysis.specs.Legal.{released_at}
 use Rattle.lines.specs.declared.row.Row.{Row}
 use Rattle.roster.proofs.releases.released_job.Goals as goal
+use Rattle.roster.proofs.releases.released_job.Goals.{then-release-row-eq0, else-release-row-eq0}
+use Rattle.std.proofs.lemmas.Bool.Decides.{nat_tests}
+use Rattle.std.specs.Bool.{then_some}
+use Rattle.std.specs.Option.{option_to_list}
 
-pub returns-then-release-row-ne0 : goal.returns-then-release-row-ne0
-returns-then-release-row-ne0 c =
-    let r = c.args.release in
-    let period = ap (λ (row : Row). r % row.period) c.row-row.ensures in
-    released_nothing c.args.t r c.args.number c.args.line.now.row (λ e. c.if-release-row-ne0.true (period ∙ e))
-
-pub returns-then-from : goal.returns-then-from
-returns-then-from c =
-    let row = c.args.line.now.row in
-    let deadline = ap (λ (row : Row). row.deadline) c.row-row.ensures in
-    released_late c.args.t c.args.release c.args.number row (omega (arith, c.from.ensures, c.from-2.ensures, c.from-3.ensures, deadline, c.if-from.true))
+chosen : {X : Type 0} (test : Bool) (x : X) → option_to_list (then_some test x) ≡ cond test (x ∷ []) []
+chosen true x = refl
+chosen false x = refl
 
 pub returns : goal.returns
+unfolding released_at
 returns c =
     let row = c.args.line.now.row in
     let r = c.args.release in
-    let period = ap (λ (x : Row). r % x.period) c.row-row.ensures in
-    let deadline = ap (λ (x : Row). x.deadline) c.row-row.ensures in
-    let in_time : r + row.deadline ≤ c.args.t = omega (arith, c.from.ensures, c.from-2.ensures, c.from-3.ensures, deadline, c.if-from.false) in
-    ap (λ (x : Row). record { line = c.args.number; release = r; cost = x.cost } ∷ []) c.row-row.ensures ∙ released_here c.args.t r c.args.number row (sym period ∙ c.if-release-row-ne0.false) in_time
+    let same = c.row-row.ensures in
+    let releases : c.if-release-row-eq0.releases ≡ (eqb (r % row.period) 0 && leb (r + row.deadline) c.args.t) = elim c.if-release-row-eq0.branch [ then-release-row-eq0 w ↦ grind (arith, nat_tests) | else-release-row-eq0 w ↦ grind (arith, nat_tests) ] in
+    ap option_to_list c.then_some.ensures ∙ chosen c.if-release-row-eq0.releases _ ∙ ap₂ (λ test (x : Row). cond test (record { line = c.args.number; release = r; cost = x.cost } ∷ []) []) releases same
