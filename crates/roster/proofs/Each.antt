@@ -1,5 +1,5 @@
 -- A check of each member of a list passes where it passes each member.
-use Rattle.std.proofs.Common.{◌≡◌, ℕ, zero, suc, ◌+◌, ◌<◌, ◌≤◌, Bool, true, false, cond, List, [], ◌∷◌, length, get_or, drop, Some, None, sym, refl, ap, ◌∙◌, add-zero, arith}
+use Rattle.std.proofs.Common.{◌≡◌, ℕ, zero, suc, ◌+◌, ◌<◌, ◌≤◌, Bool, true, false, cond, List, [], ◌∷◌, map, length, get_or, drop, Some, None, sym, refl, ap, ◌∙◌, add-zero, arith}
 use Rattle.refusal.proofs.Checks.{passed_first, pass_first}
 use Rattle.refusal.specs.Answers.{Check, check_at, refusal_of}
 use Rattle.refusal.specs.declared.reason.Reason.{Reason}
@@ -40,26 +40,8 @@ module _ {X : Type 0} (bad : X → Bool) (why : Reason) where
       let onward : suc first + i ≡ first + suc i = omega arith in
       cond-false (bad x) _ _ (fine 0 x (omega arith) (omega arith)) ∙ first_bad (suc first) xs i (omega arith) here (λ k d l h. fine (suc k) d (omega arith) (omega arith)) ∙ ap (λ p. Some (check_at p true why).refusal) onward
 
--- a walk over the members, of which the first i have passed
-abbrev pub Reading : {X : Type 0} → (ℕ → X → Check) → ℕ → List X → ℕ → Type 0
-Reading one first xs i = refusal_of (each one first xs) ≡ refusal_of (each one (first + i) (drop i xs))
-
-module _ {X : Type 0} (one : ℕ → X → Check) (first : ℕ) (xs : List X) where
-  pub reading_none : Reading one first xs 0
-  reading_none = ap (λ p. refusal_of (each one p xs)) (sym (add-zero first))
-
-  split : (i : ℕ) (d : X) → i < length xs → refusal_of (each one (first + i) (drop i xs)) ≡ cond (one (first + i) (get_or xs i d)).fails (Some (one (first + i) (get_or xs i d)).refusal) (refusal_of (each one (suc (first + i)) (drop (i + 1) xs)))
-  unfolding each
-  split i d l = at_drop_more (λ ys. refusal_of (each one (first + i) ys)) xs i d l
-
-  pub reading_more : (i : ℕ) (d : X) → i < length xs → (one (first + i) (get_or xs i d)).fails ≡ false → Reading one first xs i → Reading one first xs (i + 1)
-  reading_more i d l fine before =
-      let onward : suc (first + i) ≡ first + (i + 1) = omega arith in
-      before ∙ split i d l ∙ cond-false _ _ _ fine ∙ ap (λ p. refusal_of (each one p (drop (i + 1) xs))) onward
-
-  pub reading_stops : (i : ℕ) (d : X) → i < length xs → (one (first + i) (get_or xs i d)).fails ≡ true → Reading one first xs i → refusal_of (each one first xs) ≡ Some (one (first + i) (get_or xs i d)).refusal
-  reading_stops i d l bad before = before ∙ split i d l ∙ cond-true _ _ _ bad
-
-  pub reading_all : (i : ℕ) → length xs ≤ i → Reading one first xs i → refusal_of (each one first xs) ≡ None
-  unfolding each
-  reading_all i l before = before ∙ at_drop_all (λ ys. refusal_of (each one (first + i) ys)) xs i l
+-- the same over what f makes of each member
+pub checked_map : {X Y : Type 0} (f : Y → X) (bad : X → Bool) (why : Reason) (first : ℕ) (ys : List Y) → Checked (λ y. bad (f y)) why first ys ≡ Checked bad why first (map f ys)
+unfolding each
+checked_map f bad why first [] = refl
+checked_map f bad why first (y ∷ ys) = ap (λ cs. check_at first (bad (f y)) why ∷ cs) (checked_map f bad why (suc first) ys)

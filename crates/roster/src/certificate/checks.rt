@@ -1,5 +1,6 @@
-ghost use Rattle.std.specs.Prelude.{◌≡◌, ℕ, ◌*◌, ◌≤◌, not, ◌||◌, ◌==◌, Bool, [], ◌∷◌, length};
+ghost use Rattle.std.specs.Prelude.{◌≡◌, ℕ, ◌*◌, ◌≤◌, not, ◌||◌, ◌==◌, Bool, [], ◌∷◌, length, nat_lt};
 ghost use Rattle.analysis.specs.Watching.{Cite as Cited, weighed};
+ghost use Rattle.lines.specs.Demand.{count};
 ghost use Rattle.lines.specs.Of.{rows_of, watched};
 ghost use Rattle.refusal.specs.Answers.{Answered, check_at};
 ghost use Rattle.roster.specs.Certificate.{cites_of, each, listed, cited_check, count_check, figure_checks, supply_check};
@@ -8,7 +9,7 @@ ghost use Rattle.roster.specs.Cites.{cite_of, cites_left};
 use crate::certificate::Certificate;
 use crate::cite::Cite;
 use crate::cites::Cites;
-use lines::{Lines, WatchList};
+use lines::{Line, Lines, WatchList};
 use refusal::{Layer, Reason, Refusal};
 use supply::Supply;
 
@@ -94,18 +95,23 @@ impl<'a> Certificate<'a> {
             .sum()
     }
 
-    // The cites cover the count of every line at the deadline that is to leave.
+    // Whether the cites cover the count of a line at the deadline that is to leave.
+    fn covers(&self, line: &Line) -> bool
+        ensures { nat_lt (weighed (count line.now.row) (cites_of self.now.bytes.now)) (self.now.divisor * count line.now.row self.now.deadline) ≡ not result }
+    {
+        self.weighed(|t| line.count(t)) >= term(self.divisor, line.count(self.deadline))
+    }
+
+    // They cover the count of every line.
     pub(crate) fn check_counts(&self, lines: &Lines) -> Result<(), Refusal>
         ensures { Answered result (each (count_check self.now.deadline self.now.divisor (cites_of self.now.bytes.now)) 0 (rows_of lines.now)) (λ _. Unit {0}) }
     {
-        let mut number = 0;
-        while let Some(line) = lines.get(number) {
-            if self.weighed(|t| line.count(t)) < term(self.divisor, line.count(self.deadline)) {
-                return Err(Refusal::by(Layer::Roster, Reason::CountNotCovered).at(number as u32));
+        match lines.as_slice().iter().position(|line| !self.covers(line)) {
+            None => Ok(()),
+            Some(number) => {
+                Err(Refusal::by(Layer::Roster, Reason::CountNotCovered).at(number as u32))
             }
-            number += 1;
         }
-        Ok(())
     }
 
     // The cites ask of the supply no more than that deadline does.
