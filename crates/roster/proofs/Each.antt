@@ -1,10 +1,9 @@
 -- A check of each member of a list passes where it passes each member.
-use Rattle.std.proofs.Common.{◌≡◌, ℕ, zero, suc, ◌+◌, ◌<◌, ◌≤◌, Bool, true, false, cond, List, [], ◌∷◌, map, length, get_or, drop, Some, None, sym, refl, ap, ◌∙◌, add-zero, arith}
+use Rattle.std.proofs.Common.{◌≡◌, ℕ, zero, suc, ◌+◌, ◌<◌, Bool, true, false, List, [], ◌∷◌, map, length, Some, None, sym, refl, ap, ◌∙◌, add-zero, arith}
 use Rattle.refusal.proofs.Checks.{passed_first, pass_first}
 use Rattle.refusal.specs.Answers.{Check, check_at, refusal_of}
 use Rattle.refusal.specs.declared.reason.Reason.{Reason}
 use Rattle.roster.specs.Certificate.{each}
-use Rattle.std.proofs.lemmas.List.{at_drop_more, at_drop_all}
 use Rattle.std.proofs.lemmas.Bool.{cond-true, cond-false}
 use Rattle.std.specs.List.{AllByRecursion, AllWithin, HoldsAt}
 

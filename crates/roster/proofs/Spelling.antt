@@ -1,16 +1,11 @@
--- The cites that bytes spell, and sums over them.
-use Rattle.std.proofs.Common.{◌≡◌, ℕ, zero, suc, ◌+◌, ◌*◌, ◌/◌, ◌%◌, ◌<◌, ◌≤◌, ◌⊎◌, true, false, eqb, List, [], ◌∷◌, map, length, get_or, drop, sym, refl, ap, ◌∙◌, ⊎_elim, mul-le-mul, zero-add, arith}
-use Rattle.analysis.specs.Watching.{Cite}
+-- The cites that bytes spell: how many, and the first of them.
+use Rattle.std.proofs.Common.{◌≡◌, ℕ, zero, suc, ◌+◌, ◌*◌, ◌/◌, ◌%◌, ◌<◌, ◌≤◌, ◌⊎◌, true, false, eqb, List, [], ◌∷◌, map, length, get_or, drop, sym, refl, ap, ◌∙◌, ⊎_elim, arith}
 use Rattle.lines.specs.Calls.{outside}
 use Rattle.roster.specs.Certificate.{cite_at, cites_of, Whole}
-use Rattle.std.proofs.lemmas.List.FromFn.{length-map-range_with_len, get_or-map-range_with_len}
+use Rattle.std.proofs.lemmas.List.FromFn.{length-map-range_with_len}
 use Rattle.std.proofs.lemmas.List.{get_or-drop, length-drop}
 use Rattle.std.proofs.lemmas.Bool.{cond-true, cond-false, eq-eqb, cases_eq}
 use Rattle.std.specs.List.{range_with_len}
-
--- the cite of a place that holds none
-abbrev pub no_cite : Cite
-no_cite = record { deadline = 0; weight = 0 }
 
 module _ (bytes : List ℕ) (whole : length bytes % 4 ≡ 0) where
   pub spelled : cites_of bytes ≡ map (cite_at bytes) (range_with_len 0 (length bytes / 4))
@@ -18,9 +13,6 @@ module _ (bytes : List ℕ) (whole : length bytes % 4 ≡ 0) where
 
   pub spelled_length : length (cites_of bytes) ≡ length bytes / 4
   spelled_length = ap length spelled ∙ length-map-range_with_len (cite_at bytes) 0 (length bytes / 4)
-
-  pub spelled_at : (k : ℕ) → k < length bytes / 4 → get_or (cites_of bytes) k no_cite ≡ cite_at bytes k
-  spelled_at k l = ap (λ cs. get_or cs k no_cite) spelled ∙ get_or-map-range_with_len (cite_at bytes) 0 (length bytes / 4) k k no_cite l (zero-add k)
 
 -- bytes that are not whole cites spell none
 pub ragged : (bytes : List ℕ) → (length bytes % 4 ≡ 0 → ⊥) → cites_of bytes ≡ []
@@ -55,7 +47,3 @@ not_few bytes off =
 -- bytes of whole cites spell at most 8
 pub few_cites : (bytes : List ℕ) → Whole bytes → length (cites_of bytes) ≤ 8
 few_cites bytes whole = omega (arith, spelled_length bytes whole.0, whole.1)
-
--- a product of two figures of two bytes
-pub term_bound : (a b : ℕ) → a ≤ 65535 → b ≤ 65535 → a * b ≤ 4294836225
-term_bound a b l h = let most : a * b ≤ 65535 * 65535 = mul-le-mul {n₂ = 65535} l h in omega arith

@@ -72,6 +72,8 @@ pub(crate) fn write_released(lines: &Lines, t: u16, list: &mut [Job])
 {
     let mut place = 0;
     let mut release = 0;
+
+    // From release to release: most instants release nothing, and a walk over all of them would ask each line at each.
     while release < t {
         place = write_at(lines, release, t, list, place);
         release = next_release(lines, release, t);

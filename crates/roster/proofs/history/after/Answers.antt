@@ -3,8 +3,7 @@ use Rattle.roster.proofs.Going.{calls_more, reached_more}
 use Rattle.roster.proofs.history.after.Goals as goal
 use Rattle.roster.specs.Calling.{call_of}
 use Rattle.roster.specs.Working.{rows_in, watched_in}
-use Rattle.std.proofs.lemmas.List.{take_all}
-use Rattle.std.proofs.Common.{[], map, take, sym, refl, ◌∙◌, subst}
+use Rattle.std.proofs.Common.{[], map, take, sym, refl, subst}
 
 pub loop-call-init : goal.loop-call-init
 loop-call-init g c =
@@ -20,14 +19,3 @@ loop-call-preserved g c =
     let after = c.make.new.self in
     let more = reached_more g.S.Supply.meaning s c.loop-call.roster after (map call_of (take i calls)) _ c.make.result _ c.make.ensures c.loop-call.invariant in
     (more.0, subst (λ cs. Reached (g.S.Supply.meaning s) cs (rows_in after) (watched_in after)) (calls_more call_of calls i _ c.loop-call-test.true) more.1)
-
-pub returns : goal.returns
-returns g c =
-    let calls = c.args.calls.now in
-    let roster = c.loop-call.roster in
-    let s = c.open-roster.result.supply in
-    let all = take_all c.loop-call.call-index calls c.loop-call-test.false in
-    record {
-      supply = c.loop-call.invariant.0 ∙ c.open-roster.ensures.supply;
-      reached = subst (λ x. Reached (g.S.Supply.meaning x) (map call_of calls) (rows_in roster) (watched_in roster)) c.open-roster.ensures.supply (subst (λ cs. Reached (g.S.Supply.meaning s) (map call_of cs) (rows_in roster) (watched_in roster)) all c.loop-call.invariant.1);
-    }

@@ -1,14 +1,13 @@
-use Rattle.std.proofs.Common.{◌≡◌, ◌+◌, ◌<◌, [], ◌∷◌, ◌++◌, length, get_or, take, set, sym, ap, ◌∙◌, ap₂, add-zero, arith}
+use Rattle.std.proofs.Common.{◌≡◌, ◌+◌, ◌<◌, [], ◌∷◌, ◌++◌, length, take, set, sym, ap, ◌∙◌, ap₂, add-zero, arith}
 use Rattle.analysis.proofs.Releases.{released_more, released_fewer}
 use Rattle.analysis.specs.Legal.{released_at}
-use Rattle.lines.specs.Demand.{no_row}
 use Rattle.lines.specs.Of.{rows_of}
 use Rattle.roster.proofs.Rows.{as_many, row_here}
 use Rattle.roster.proofs.Writing.{written_none, written_more}
 use Rattle.roster.proofs.releases.write_at.Goals as goal
 use Rattle.roster.proofs.releases.write_at.Goals.{in-Some, in_default}
 use Rattle.roster.specs.Lent.{written}
-use Rattle.std.proofs.lemmas.List.{append-nil, length_push, take_all}
+use Rattle.std.proofs.lemmas.List.{append-nil, length_push}
 
 pub loop-number-init : goal.loop-number-init
 unfolding released_at
@@ -53,13 +52,3 @@ loop-number-preserved c =
           let same = next ∙ ap (λ jobs. before ++ jobs) (sym w.in_default.ensures) ∙ append-nil before in
           (w.place-is ∙ c.loop-number.invariant.0 ∙ ap (λ jobs. start + length jobs) (sym same), w.list-is ∙ c.loop-number.invariant.1 ∙ ap (λ jobs. written start jobs list) (sym same))
     ]
-
-pub returns : goal.returns
-returns c =
-    let rows = rows_of c.args.lines.now in
-    let many = as_many c.as_slice-line-items.result.now rows c.as_slice-line-items.ensures.rows in
-    let all = ap (λ xs. released_at 0 xs c.args.t c.args.release) (take_all c.loop-number.number rows (omega (arith, many, c.loop-number-test.false))) in
-    record {
-      place = c.loop-number.invariant.0 ∙ ap (λ jobs. c.args.start + length jobs) all;
-      list = c.loop-number.invariant.1 ∙ ap (λ jobs. written c.args.start jobs c.args.list.now) all;
-    }

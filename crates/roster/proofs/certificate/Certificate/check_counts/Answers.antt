@@ -1,7 +1,6 @@
-use Rattle.std.proofs.Common.{◌≡◌, ◌*◌, Bool, true, false, ltb, Some, None, sym, ap, ◌∙◌, zero-add, rules}
+use Rattle.std.proofs.Common.{◌≡◌, ◌*◌, true, false, ltb, Some, None, sym, ap, ◌∙◌, zero-add, rules}
 use Rattle.analysis.specs.Watching.{weighed}
 use Rattle.lines.specs.Demand.{count}
-use Rattle.lines.specs.Of.{rows_of}
 use Rattle.lines.specs.declared.line.Line.{Line}
 use Rattle.lines.specs.declared.row.Row.{Row}
 use Rattle.refusal.proofs.Checks.{refused_at}
