@@ -5,7 +5,6 @@ pub mod Going
 pub mod Listed
 pub mod Missing
 pub mod Passing
-pub mod Rows
 pub mod Spelling
 pub mod Summing
 pub mod Walking

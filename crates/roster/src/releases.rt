@@ -13,11 +13,7 @@ use run::Job;
 pub(crate) fn number_released(lines: &Lines, t: u16) -> u32
     ensures { result ≡ length (witness (rows_of lines.now) t) }
 {
-    lines
-        .as_slice()
-        .iter()
-        .map(|line| u32::from(line.count(t)))
-        .sum()
+    lines.iter().map(|line| u32::from(line.count(t))).sum()
 }
 
 // The job that the line of a number releases at an instant, if it releases one there that is due by t.
@@ -41,8 +37,8 @@ fn write_at(lines: &Lines, release: u16, t: u16, list: &mut [Job], start: usize)
     ensures list { list.new ≡ written start (released_at 0 (rows_of lines.now) t release) list.old }
 {
     let mut place = start;
-    for (number, line) in lines.as_slice().iter().enumerate() {
-        if let Some(job) = released_job(number as u8, line, release, t) {
+    for (number, line) in lines.iter().enumerate() {
+        if let Some(job) = released_job(number as u8, &line, release, t) {
             list[place] = job;
             place += 1;
         }
@@ -58,7 +54,7 @@ fn next_release(lines: &Lines, after: u16, end: u16) -> u16
     ensures none_between { (k : ℕ) → after < k → k < result → some (divides k) (rows_of lines.now) ≡ false }
 {
     let mut first = u32::from(end);
-    for line in lines.as_slice() {
+    for line in lines.iter() {
         let period = line.row().period;
         first = first.min(u32::from(after) + u32::from(period - after % period));
     }

@@ -106,7 +106,7 @@ impl<'a> Certificate<'a> {
     pub(crate) fn check_counts(&self, lines: &Lines) -> Result<(), Refusal>
         ensures { Answered result (each (count_check self.now.deadline self.now.divisor (cites_of self.now.bytes.now)) 0 (rows_of lines.now)) (λ _. Unit {0}) }
     {
-        match lines.as_slice().iter().position(|line| !self.covers(line)) {
+        match lines.iter().position(|line| !self.covers(&line)) {
             None => Ok(()),
             Some(number) => {
                 Err(Refusal::by(Layer::Roster, Reason::CountNotCovered).at(number as u32))
