@@ -1,11 +1,11 @@
 -- The slots that a number gives, counted by its ones: from the laws of binary digits.
-use Rattle.std.proofs.Common.{◌≡◌, ℕ, zero, suc, ◌+◌, ◌-◌, ◌*◌, ◌/◌, ◌%◌, ◌^◌, ◌<◌, ◌≤◌, true, false, cond, eqb, sym, ap, ◌∙◌, ⊎_elim, mod-lt, mod-eq_of_lt, div-lt_iff_lt-mul, one-add, arith, lit<, pow_pos}
+use Rattle.std.proofs.Common.{◌≡◌, ℕ, zero, suc, ◌+◌, ◌-◌, ◌*◌, ◌/◌, ◌%◌, ◌^◌, ◌<◌, ◌≤◌, false, cond, eqb, sym, ap, ◌∙◌, ⊎_elim, mod-lt, mod-eq_of_lt, one-add, arith, lit<, pow_pos}
 use lib.Bits.{bit_and, and_mask}
 use lib.Count.{ones, ones_cat}
 use lib.Pow.{mod-pow-add}
 use native.Mathlib.Nat.{mod-one, div-eq_of_lt}
 use Rattle.std.proofs.lemmas.Nat.{one_shl}
-use Rattle.std.proofs.lemmas.Bool.{eqb-true, eqb-false, cases_lt}
+use Rattle.std.proofs.lemmas.Bool.{eqb-false, cases_lt}
 use Rattle.supply.specs.Rows.{from_start, from_within}
 use Rattle.supply.specs.Row.{upto, from}
 use Rattle.supply.specs.Timetable.{bits, LawfulTimetable}
@@ -42,12 +42,7 @@ before_by_ones length word x turn lawful same =
     let turns : x / length * ones word ≡ x / length * upto (bits length word).given length = ap (λ y. x / length * y) whole in
     rw same (omega (arith, from_start (bits length word) x lawful.0), from_within (bits length word) 0 x)
 
--- a word has no bit from k upward exactly when 2 ^ k goes into it no time
-pub none_above : (word k : ℕ) → eqb (word / 2 ^ k) 0 ≡ true → word < 2 ^ k
-none_above word k none =
-    let below : word / 2 ^ k < 1 = omega (arith, eqb-true (word / 2 ^ k) 0 none) in
-    omega (arith, (div-lt_iff_lt-mul {k = 2 ^ k} {x = word} {y = 1} (pow_pos k)).0 below)
-
+-- a word has a bit from k upward where 2 ^ k goes into it
 pub some_above : (word k : ℕ) → eqb (word / 2 ^ k) 0 ≡ false → 2 ^ k ≤ word
 some_above word k some =
     ⊎_elim (λ (b : word < 2 ^ k). absurd (eqb-false (word / 2 ^ k) 0 some (div-eq_of_lt b))) (λ (b : 2 ^ k ≤ word). b) (cases_lt word (2 ^ k))

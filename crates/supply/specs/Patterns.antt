@@ -5,7 +5,7 @@ use Rattle.std.proofs.Common.{ap, ◌∙◌, ⊎_elim, mod-lt, mod-eq_of_lt}
 use Rattle.std.proofs.Math.Nat.{mod_self, mod-add-div'}
 use native.Mathlib.Omega.{arith}
 use Rattle.std.proofs.lemmas.Bool.{cases_lt}
-use Rattle.supply.specs.Rows.{from_difference, from_start, from_row, from_turns, from_within, repeating_lawful, row_laws}
+use Rattle.supply.specs.Rows.{from_difference, from_start, from_row, from_turns, repeating_lawful, row_laws}
 use Rattle.supply.specs.Row.{upto, from, repeating}
 use Rattle.supply.specs.Share.{pattern, sure, LawfulPattern, PatternLaws}
 
@@ -84,6 +84,3 @@ module _ (S F : ℕ) (lawful : LawfulPattern S F) where
 
   pub pattern_laws : PatternLaws S F
   pattern_laws = record { fewest = sure_fewest; start = worst_start; attained = sure_attained }
-
-  pub sure_within : (x : ℕ) → sure S F x ≤ x
-  sure_within x = omega (arith, sure_attained x, from_within (pattern S F) (S % F) x)

@@ -1,10 +1,10 @@
 -- A share over a lawful supply is lawful: from the laws of the supply below and of the pattern.
 -- Lemmas: they stand in specs/ since the laws of an `impl` cite them, and nobody has to believe them.
-use Rattle.std.specs.Prelude.{◌≡◌, ℕ, suc, ◌+◌, ◌-◌, ◌*◌, ◌/◌, ◌%◌, ◌<◌, ◌≤◌, nat_le, refl}
-use Rattle.std.proofs.Common.{sym, ap, ap₂, subst, ◌∙◌, mod-lt, arith}
-use Rattle.std.proofs.Math.Nat.{mod-mod}
-use Rattle.std.proofs.lemmas.Nat.{mul-add-lt, div-mul-add, mod-mul-add, div_below}
-use Rattle.std.proofs.lemmas.Bool.{le-leb, cond-true, cond_both}
+use Rattle.std.specs.Prelude.{◌≡◌, ℕ, suc, ◌+◌, ◌-◌, ◌*◌, ◌/◌, ◌%◌, ◌<◌, ◌≤◌, nat_le}
+use Rattle.std.proofs.Common.{ap, ◌∙◌, mod-lt, arith}
+use Rattle.std.proofs.Math.Nat.{mul-pos}
+use Rattle.std.proofs.lemmas.Nat.{mul-add-lt, div-mul-add, mod-mul-add}
+use Rattle.std.proofs.lemmas.Bool.{cond_both}
 use Rattle.supply.specs.Least.{counted_more}
 use Rattle.supply.specs.Patterns.{sure_attained, sure_fewest, worst_start}
 use Rattle.supply.specs.Rows.{from_window, upto_counting}
@@ -26,14 +26,6 @@ counting_through f g cf cg =
       climbs = λ n. omega (arith, counted_up f cf (g (suc n)) (suc (g n)) (cg.climbs n), cf.climbs (g n));
     }
 
--- a share has a phase, and each of its phases has its start of the pattern
-pub piled_some : (N F all : ℕ) → 0 < N → 0 < F → all ≡ N * F → 0 < all
-piled_some N F all below some piled = omega (arith, mul-add-lt 0 N 0 F some below)
-
-pub start_there : (N F all p : ℕ) → 0 < N → 0 < F → all ≡ N * F → p % all / N < F
-start_there N F all p below some piled =
-    div_below (p % all) N F below (omega (arith, mod-lt p (piled_some N F all below some piled)))
-
 -- the phase that the share answers is one of its own
 pub worst_there : (N F worst start : ℕ) → worst < N → start < F → worst + N * start < N * F
 worst_there N F worst start below there = omega (arith, mul-add-lt start N worst F there below)
@@ -48,7 +40,7 @@ module _ (m : Meaning) (law : Lawful m) (S F : ℕ) (lawful : LawfulPattern S F)
 
   shared_counts : Counts (shared S F m)
   shared_counts = (
-    piled_some m.phases F (m.phases * F) some_below (omega arith) refl,
+    mul-pos some_below (omega arith),
     λ p there. counting_through (from (pattern S F) (p / m.phases)) (m.count (p % m.phases)) (upto_counting _) (law.counts.1 (p % m.phases) (phase_below p)),
   )
 
@@ -89,16 +81,3 @@ module _ (m : Meaning) (law : Lawful m) (S F : ℕ) (lawful : LawfulPattern S F)
 -- the same, of the pattern that a share holds
 pub share_laws : {m : Meaning} → Lawful m → (p : Pattern) → Lawful (share p.given p.of m)
 share_laws {m} law p = share_lawful m law p.given p.of p.lawful
-
--- a share has phases of its own where they are few enough
-pub share_piled : (m : Meaning) (S F : ℕ) → m.phases * F ≤ most_phases → share S F m ≡ shared S F m
-share_piled m S F few = cond-true _ _ _ (le-leb _ _ few)
-
--- what the share counts, by the phase below and the start of the pattern
-pub share_counted : (m : Meaning) (S F N all phase n given r : ℕ) → N ≡ m.phases → all ≡ N * F → all ≤ most_phases → given ≡ m.count (phase % all % N % m.phases) n → r ≡ from (pattern S F) (phase % all / N) given → r ≡ (share S F m).count (phase % (share S F m).phases) n
-share_counted m S F N all phase n given r below piled few counted taken =
-    let own : all ≡ m.phases * F = piled ∙ ap (λ x. x * F) below in
-    let start : phase % all / N ≡ phase % (m.phases * F) / m.phases = ap₂ (λ a b. phase % a / b) own below in
-    let place : phase % all % N % m.phases ≡ phase % (m.phases * F) % m.phases = ap₂ (λ a b. phase % a % b % m.phases) own below ∙ mod-mod (phase % (m.phases * F)) m.phases in
-    let same : r ≡ (shared S F m).count (phase % (shared S F m).phases) n = taken ∙ ap₂ (from (pattern S F)) start (counted ∙ ap (λ q. m.count q n) place) in
-    subst (λ (t : Meaning). r ≡ t.count (phase % t.phases) n) (sym (share_piled m S F (omega arith))) same

@@ -1,7 +1,6 @@
--- A shift that leaves 0 shows that no bit stands from the length upward.
-use Rattle.supply.proofs.Bits.{none_above, some_above}
+-- A shift that leaves something shows that a bit stands from the length upward.
+use Rattle.supply.proofs.Bits.{some_above}
 use Rattle.supply.proofs.timetable.making.within.Goals as goal
 
-pub returns-else-length-eq64 : goal.returns-else-length-eq64
-returns-else-length-eq64 c =
-    record { inside = λ e. none_above c.args.word c.args.length e; outside = λ e. some_above c.args.word c.args.length e }
+pub returns-else-length-eq64-clause-outside : goal.returns-else-length-eq64-clause-outside
+returns-else-length-eq64-clause-outside c e = some_above c.args.word c.args.length e
