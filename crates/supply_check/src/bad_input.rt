@@ -1,5 +1,6 @@
 // What is refused, and how.
-use crate::piles::{Numbers, Part, made};
+use crate::piles::{Numbers, made};
+use crate::player::Part;
 use refusal::Refusal;
 use std::io;
 use supply::{Share, Supply, Timetable};
@@ -19,24 +20,27 @@ fn print_made(
 }
 
 fn print_timetable(rt: &impl Print, length: u8, word: u64) -> io::Result<()> {
-    let made = match Timetable::new(length, word) {
-        Ok(table) => Ok(table.phases()),
-        Err(refusal) => Err(refusal),
-    };
-    print_made(rt, "timetable", length as u64, word, made)
+    let made = Timetable::new(length, word).map(|table| table.phases());
+    print_made(rt, "timetable", u64::from(length), word, made)
 }
 
 // Tries a share, and says what came of it; a refused share hands the supply below back.
 fn print_share<B: Supply + Copy>(rt: &impl Print, below: B, s: u8, f: u8) -> io::Result<()> {
     match Share::new(below, s, f) {
-        Ok(share) => print_made(rt, "share", s as u64, f as u64, Ok(share.phases())),
+        Ok(share) => print_made(rt, "share", u64::from(s), u64::from(f), Ok(share.phases())),
         Err(refused) => {
-            print_made(rt, "share", s as u64, f as u64, Err(refused.refusal))?;
+            print_made(
+                rt,
+                "share",
+                u64::from(s),
+                u64::from(f),
+                Err(refused.refusal),
+            )?;
             print_made(
                 rt,
                 "  handed back from",
-                s as u64,
-                f as u64,
+                u64::from(s),
+                u64::from(f),
                 Ok(refused.below.phases()),
             )
         }

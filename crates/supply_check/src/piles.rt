@@ -1,29 +1,10 @@
 // Piles of two shares over a timetable, in every phase and over many numbers of slots.
-use crate::player::{RowPlayer, SharePlayer, given_in, row_of};
+use crate::player::{Part, Row, SharePlayer, given_in};
 use crate::tally::Tally;
-use crate::timetables::fewest_in;
 use std::io;
 use supply::{Share, Supply, Timetable};
 
 static WINDOWS: [u16; 12] = [0, 1, 2, 3, 4, 5, 8, 13, 31, 64, 127, 300];
-
-// The numbers of a share: so many are taken of each turn.
-#[derive(Clone, Copy)]
-pub struct Part {
-    pub taken: u8,
-    pub turn: u8,
-}
-
-impl Part {
-    // The first place of a turn that is not taken, or the first of all where each is.
-    fn after_taken(&self) -> u8 {
-        if self.taken < self.turn {
-            self.taken
-        } else {
-            0
-        }
-    }
-}
 
 // A pile, with the numbers that it is made of.
 #[derive(Clone, Copy)]
@@ -83,46 +64,33 @@ static PILES: [Numbers; 7] = [
 ];
 
 // How many of n slots are given, from these places of the row and of the two shares on.
-fn given_at(row: &[bool], numbers: Numbers, place: u8, inner: u8, outer: u8, n: u16) -> u32 {
-    let row = RowPlayer {
-        row,
-        turn: numbers.length,
-        place,
-    };
+fn given_at(row: &Row, numbers: Numbers, place: u8, inner: u8, outer: u8, n: u16) -> u32 {
     let first = SharePlayer {
-        below: row,
-        taken: numbers.inner.taken,
-        turn: numbers.inner.turn,
+        below: row.play(place),
+        part: numbers.inner,
         place: inner,
     };
     let second = SharePlayer {
         below: first,
-        taken: numbers.outer.taken,
-        turn: numbers.outer.turn,
+        part: numbers.outer,
         place: outer,
     };
-    given_in(second, n) as u32
+    u32::from(given_in(second, n))
 }
 
 // The phase to be answered with the least: the worst place of the row, and of each share the first place that is not taken.
-fn worst_phase(row: &[bool], numbers: Numbers, n: u16) -> u32 {
-    let (_, place) = fewest_in(row, numbers.length, n);
-    let length = numbers.length as u32;
-    let below = length.wrapping_mul(numbers.inner.turn as u32);
-    (place as u32)
-        .wrapping_add(length.wrapping_mul(numbers.inner.after_taken() as u32))
-        .wrapping_add(below.wrapping_mul(numbers.outer.after_taken() as u32))
+fn worst_phase(row: &Row, numbers: Numbers, n: u16) -> u32 {
+    let (_, place) = row.fewest(n);
+    let length = u32::from(numbers.length);
+    let below = length.wrapping_mul(u32::from(numbers.inner.turn));
+    u32::from(place)
+        .wrapping_add(length.wrapping_mul(u32::from(numbers.inner.after_taken())))
+        .wrapping_add(below.wrapping_mul(u32::from(numbers.outer.after_taken())))
 }
 
 // Compares a pile over n slots: every phase and one far above it, the least with its phase, and the number of phases.
 // Phase p + N x r comes after r times the N phases below, so the place in the row goes round fastest.
-fn compare(
-    tally: &mut Tally,
-    pile: &Share<Share<Timetable>>,
-    row: &[bool],
-    numbers: Numbers,
-    n: u16,
-) {
+fn compare(tally: &mut Tally, pile: &Share<Share<Timetable>>, row: &Row, numbers: Numbers, n: u16) {
     let far = pile.phases().wrapping_mul(4000);
     let mut fewest = u32::MAX;
     let mut phase: u32 = 0;
@@ -130,15 +98,15 @@ fn compare(
         for inner in 0..numbers.inner.turn {
             for place in 0..numbers.length {
                 let given = given_at(row, numbers, place, inner, outer, n);
-                tally.note(pile.count(phase, n) as u32, given);
-                tally.note(pile.count(far.wrapping_add(phase), n) as u32, given);
+                tally.note(u32::from(pile.count(phase, n)), given);
+                tally.note(u32::from(pile.count(far.wrapping_add(phase), n)), given);
                 fewest = fewest.min(given);
                 phase = phase.wrapping_add(1);
             }
         }
     }
     let (number, worst) = pile.least(n);
-    tally.note(number as u32, fewest);
+    tally.note(u32::from(number), fewest);
     tally.note(worst, worst_phase(row, numbers, n));
     tally.note(pile.phases(), phase);
 }
@@ -146,21 +114,11 @@ fn compare(
 // The pile of these numbers, if they make one.
 pub fn made(numbers: Numbers) -> Option<Share<Share<Timetable>>> {
     let table = Timetable::new(numbers.length, numbers.word).ok()?;
-    let Ok(inner) = Share::new(table, numbers.inner.taken, numbers.inner.turn) else {
-        return None;
-    };
-    match Share::new(inner, numbers.outer.taken, numbers.outer.turn) {
-        Ok(pile) => Some(pile),
-        Err(_) => None,
-    }
+    let inner = Share::new(table, numbers.inner.taken, numbers.inner.turn).ok()?;
+    Share::new(inner, numbers.outer.taken, numbers.outer.turn).ok()
 }
 
-fn compare_windows(
-    tally: &mut Tally,
-    pile: &Share<Share<Timetable>>,
-    row: &[bool],
-    numbers: Numbers,
-) {
+fn compare_windows(tally: &mut Tally, pile: &Share<Share<Timetable>>, row: &Row, numbers: Numbers) {
     for n in WINDOWS {
         compare(tally, pile, row, numbers, n);
     }
@@ -172,7 +130,7 @@ fn compare_windows(
 pub fn compare_all(rt: &HostRuntime) -> io::Result<()> {
     let mut tally = Tally::new();
     for numbers in PILES {
-        let row = row_of(rt.alloc(), numbers.length, numbers.word)?;
+        let row = Row::of(rt.alloc(), numbers.length, numbers.word)?;
         match made(numbers) {
             Some(pile) => compare_windows(&mut tally, &pile, &row, numbers),
             None => tally.note(0, 1),

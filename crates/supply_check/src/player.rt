@@ -10,6 +10,7 @@ fn round(place: u8, turn: u8) -> u8 {
     }
 }
 
+// A supply has no last slot, so this is no `Iterator`, whose every `next` may be the end.
 pub trait Player {
     // Whether the next slot is given.
     fn next_given(&mut self) -> bool;
@@ -17,20 +18,67 @@ pub trait Player {
 
 // A row of slots that repeats for ever.
 #[derive(Drop)]
+pub struct Row {
+    pub length: u8,
+    slots: Vec<bool>,
+}
+
+impl Row {
+    // The row of a word: slot s is given when the bit worth 2^s is 1.
+    pub fn of(heap: Global, length: u8, word: u64) -> Result<Row, AllocError> {
+        let slots = (0..length)
+            .map(|slot| word.checked_shr(u32::from(slot)).unwrap_or(0) % 2 == 1)
+            .collect(heap)?;
+        Ok(Row { length, slots })
+    }
+
+    // The row played from a place on.
+    pub fn play(&self, place: u8) -> RowPlayer<'_> {
+        RowPlayer {
+            slots: self.slots.as_slice(),
+            turn: self.length,
+            place,
+        }
+    }
+
+    // The fewest given slots that n slots of the row hold, and the first place to begin at for that.
+    pub fn fewest(&self, n: u16) -> (u16, u8) {
+        (0..self.length)
+            .map(|place| (given_in(self.play(place), n), place))
+            .fold((u16::MAX, 0), |fewest, next| fewest.min(next))
+    }
+}
+
+#[derive(Drop)]
 pub struct RowPlayer<'a> {
-    pub row: &'a [bool],
-    pub turn: u8,
-    pub place: u8,
+    slots: &'a [bool],
+    turn: u8,
+    place: u8,
 }
 
 impl Player for RowPlayer<'_> {
     fn next_given(&mut self) -> bool {
-        let given = match self.row.get(self.place as usize) {
-            Some(given) => *given,
-            None => false,
-        };
+        let given = self.slots.get(usize::from(self.place)) == Some(&true);
         self.place = round(self.place, self.turn);
         given
+    }
+}
+
+// The numbers of a share: so many are taken of each turn.
+#[derive(Clone, Copy)]
+pub struct Part {
+    pub taken: u8,
+    pub turn: u8,
+}
+
+impl Part {
+    // The first place of a turn that is not taken, or the first of all where each is.
+    pub fn after_taken(&self) -> u8 {
+        if self.taken < self.turn {
+            self.taken
+        } else {
+            0
+        }
     }
 }
 
@@ -38,8 +86,7 @@ impl Player for RowPlayer<'_> {
 #[derive(Drop)]
 pub struct SharePlayer<P> {
     pub below: P,
-    pub taken: u8,
-    pub turn: u8,
+    pub part: Part,
     pub place: u8,
 }
 
@@ -48,30 +95,13 @@ impl<P: Player> Player for SharePlayer<P> {
         if !self.below.next_given() {
             return false;
         }
-        let given = self.place < self.taken;
-        self.place = round(self.place, self.turn);
+        let given = self.place < self.part.taken;
+        self.place = round(self.place, self.part.turn);
         given
     }
 }
 
 // How many of the next n slots are given.
 pub fn given_in<P: Player + Drop>(mut player: P, n: u16) -> u16 {
-    let mut given = 0;
-    for _slot in 0..n {
-        if player.next_given() {
-            given += 1;
-        }
-    }
-    given
-}
-
-// The row of a word: slot s is given when the bit worth 2^s is 1.
-pub fn row_of(heap: Global, length: u8, word: u64) -> Result<Vec<bool>, AllocError> {
-    let mut row = Vec::new(heap);
-    let mut rest = word;
-    for _ in 0..length {
-        row.push(rest % 2 == 1)?;
-        rest /= 2;
-    }
-    Ok(row)
+    (0..n).filter(|_slot| player.next_given()).count() as u16
 }
