@@ -5,3 +5,4 @@ pub mod Slots
 pub mod Promise
 pub mod Ready
 pub mod Holding
+pub mod Listed

@@ -35,7 +35,7 @@ impl Releases {
             .get(usize::from(job.line))
             .ok_or(refused(Reason::JobOutOfRange, place))?;
         let row = line.row();
-        if job.cost < 1 || job.cost > row.cost {
+        if !(1..=row.cost).contains(&job.cost) {
             return Err(refused(Reason::JobOutOfRange, place));
         }
         if job.release < self.last || job.release < self.free[usize::from(job.line)] {

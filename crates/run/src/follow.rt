@@ -4,8 +4,9 @@ ghost use Rattle.edf.specs.Run.{Runs};
 ghost use Rattle.lines.specs.Of.{rows_of};
 ghost use Rattle.run.specs.Outcomes.{outcome, ending};
 ghost use Rattle.run.specs.Holding.{Cursor, Admits};
+ghost use Rattle.run.specs.Listed.{jobs_of, line_of};
 ghost use Rattle.run.specs.Slots.{given_in, entry_for, schedule, Entries};
-ghost use Rattle.run.specs.Timed.{line_at, timed, timed_list};
+ghost use Rattle.run.specs.Timed.{timed};
 
 use crate::checked::Checked;
 use crate::job::Job;
@@ -14,7 +15,8 @@ use crate::ready::{Rank, Ready};
 use crate::table::Table;
 use supply::Supply;
 
-// The entry of a slot that is given and idle. (Where a job runs it is 1 + the job's place.)
+// The entry of a slot that is given and idle. (Where a job runs it is 1 + the job's place. C code lends the slots, so they are
+// plain numbers.)
 const IDLE: u16 = 0;
 
 // The entry of a slot that is not given, and of every slot behind the end of a run.
@@ -40,9 +42,9 @@ impl Checked<'_> {
 
     // Puts the jobs that are released by an instant into the ready table, from a place on, and answers the place behind them.
     fn admit(&self, table: &mut Table, from: usize, at: u16) -> usize
-        requires { Cursor (timed_list (rows_of self.now.lines.now) self.now.jobs.now) at at from }
-        ensures place { Cursor (timed_list (rows_of self.now.lines.now) self.now.jobs.now) at (suc at) result }
-        ensures table { Admits (timed_list (rows_of self.now.lines.now) self.now.jobs.now) (line_at self.now.jobs.now) at from table.old.jobs result table.new.jobs }
+        requires { Cursor (jobs_of self.now) at at from }
+        ensures place { Cursor (jobs_of self.now) at (suc at) result }
+        ensures table { Admits (jobs_of self.now) (line_of self.now) at from table.old.jobs result table.new.jobs }
     {
         for (ahead, job) in self.jobs[from..].iter().enumerate() {
             let place = from + ahead;
@@ -62,7 +64,7 @@ impl Checked<'_> {
     // Serves each given slot up to the largest deadline by earliest deadline first, and stops at the first miss.
     pub(crate) fn follow<S: Supply>(&self, supply: &S, phase: u32, slots: &mut [u16]) -> Outcome
         requires { self.now.last_deadline ≤ length slots.old }
-        ensures runs { Runs (given_in (S.meaning supply.now) phase) (timed_list (rows_of self.now.lines.now) self.now.jobs.now) self.now.last_deadline (schedule slots.new) (outcome result) }
+        ensures runs { Runs (given_in (S.meaning supply.now) phase) (jobs_of self.now) self.now.last_deadline (schedule slots.new) (outcome result) }
         ensures entries { Entries (given_in (S.meaning supply.now) phase) slots.new (ending self.now.last_deadline result) }
     {
         slots.fill(NOT_GIVEN);

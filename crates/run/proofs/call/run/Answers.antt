@@ -40,24 +40,20 @@ final : (g : ℕ → ℕ) → Counting g → (jobs : List Timed) (b : ℕ) (σ :
 final g counting jobs b σ met runs not = absurd (not refl)
 final g counting jobs b σ (missed k d) runs not = run_optimal g counting jobs b σ k d runs
 
-pub returns-in_err-list : goal.returns-in_err-list
-returns-in_err-list g c =
+pub returns-in_err-list-clause-refused_by_checks : goal.returns-in_err-list-clause-refused_by_checks
+returns-in_err-list-clause-refused_by_checks g c =
     let p = err_from_is_err_and c.from_residual.result c.from_residual.ensures.1 in
-    let rows = rows_of c.args.lines.now in
-    let jobs = c.args.jobs.now in
-    let refused = refusal_first (list_checks rows jobs) _ _ c.in_err-list.ensures in
-    rw (p.1, p.2) (record { refused_by_checks = refused; refusal_leaves_slots = refl; slots_follow_edf = tt; entries_well_written = tt; met_exactly = tt; miss_is_final = tt })
+    rw (p.1, p.2) (refusal_first (list_checks (rows_of c.args.lines.now) c.args.jobs.now) _ _ c.in_err-list.ensures)
 
-pub returns-then-slots-from : goal.returns-then-slots-from
-returns-then-slots-from g c =
+pub returns-then-slots-from-clause-refused_by_checks : goal.returns-then-slots-from-clause-refused_by_checks
+returns-then-slots-from-clause-refused_by_checks g c =
     let rows = rows_of c.args.lines.now in
     let jobs = c.args.jobs.now in
-    let list = c.in_ok-list.list in
     let taken = c.in_ok-list.ensures in
-    let last = last_is list c.args.lines.now jobs taken.1.0 taken.1.1 in
+    let last = last_is c.in_ok-list.list c.args.lines.now jobs taken.1.0 taken.1.1 in
     let short = too_short rows jobs (length c.args.slots.now) taken.0 (omega (arith, c.if-slots-from.true, c.from.ensures, last)) in
     let named = c.refused.ensures ∙ ap run_refusal (c.from-then-slots-from.ensures ∙ last) in
-    record { refused_by_checks = short ∙ ap Some (sym named); refusal_leaves_slots = refl; slots_follow_edf = tt; entries_well_written = tt; met_exactly = tt; miss_is_final = tt }
+    short ∙ ap Some (sym named)
 
 pub returns : goal.returns
 returns g c =

@@ -1,9 +1,8 @@
 use Rattle.std.proofs.Common.{◌+◌, ◌≤◌, length}
-use Rattle.lines.specs.Of.{rows_of}
 use Rattle.run.proofs.checked.Checked.admit.Given as goal
 use Rattle.run.specs.Holding.{Cursor, Admits}
-use Rattle.run.specs.Timed.{line_at, timed_list}
+use Rattle.run.specs.Listed.{jobs_of, line_of}
 
 abbrev pub invariant-loop-ahead : goal.invariant-loop-ahead
 invariant-loop-ahead l =
-    Cursor (timed_list (rows_of l.self.lines.now) l.self.jobs.now) l.at l.at (l.from + l.ahead) × Admits (timed_list (rows_of l.self.lines.now) l.self.jobs.now) (line_at l.self.jobs.now) l.at l.from l.initial.table.jobs (l.from + l.ahead) l.table.jobs
+    Cursor (jobs_of l.self) l.at l.at (l.from + l.ahead) × Admits (jobs_of l.self) (line_of l.self) l.at l.from l.initial.table.jobs (l.from + l.ahead) l.table.jobs

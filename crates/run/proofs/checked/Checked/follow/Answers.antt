@@ -7,7 +7,8 @@ use Rattle.run.proofs.checked.Checked.follow.Given as given
 use Rattle.run.proofs.checked.Checked.follow.Goals as goal
 use Rattle.run.proofs.checked.Checked.follow.Goals.{then-after-before, else-after-before, After-overdue}
 use Rattle.run.specs.Slots.{given_in, entry_for, schedule, Entries}
-use Rattle.run.specs.Timed.{line_at, timed, timed_list}
+use Rattle.run.specs.Listed.{jobs_of, line_of}
+use Rattle.run.specs.Timed.{timed}
 use Rattle.run.specs.declared.table.Table.{Table}
 use Rattle.std.proofs.lemmas.List.{length-map}
 
@@ -19,24 +20,24 @@ loop-s-init g c =
     let jobs = c.args.self.now.jobs.now in
     let cleared = c.fill.ensures.after (λ y e. e) in
     let counting = given_counting meaning c.args.phase (g.met.S.Supply.counts c.args.supply.now) in
-    (filled_none given (timed_list rows jobs) (line_at jobs) c.args.self.now.keeping c.fill.new.self c.none-table.result.jobs (λ s. rw cleared (all_clear (length c.args.slots.now) s)) c.none-table.ensures, sym counting.starts)
+    (filled_none given (jobs_of c.args.self.now) (line_of c.args.self.now) c.args.self.now.keeping c.fill.new.self c.none-table.result.jobs (λ s. rw cleared (all_clear (length c.args.slots.now) s)) c.none-table.ensures, sym counting.starts)
 
 pub entry_for-requires : goal.entry_for-requires
 entry_for-requires g c =
     let given = given_in (g.S.Supply.meaning c.args.supply.now) c.args.phase in
-    let jobs = timed_list (rows_of c.args.self.now.lines.now) c.args.self.now.jobs.now in
-    let lines = line_at c.args.self.now.jobs.now in
+    let jobs = jobs_of c.args.self.now in
+    let lines = line_of c.args.self.now in
     let filled = c.loop-s.invariant.0 in
     let held = filled_admitted given jobs lines c.args.self.now.keeping _ _ _ _ filled c.admit-next.result c.admit-next.new.table.jobs c.admit-next.ensures.table in
     served_small given jobs lines c.args.self.now.keeping _ _ _ _ filled _ _ c.admit-next.ensures.place held c.serve.result c.serve.new.self.jobs c.serve.ensures (omega (arith, c.args.self.now.few, length-map c.args.self.now.jobs.now (timed (rows_of c.args.self.now.lines.now))))
 
 -- the slot is filled, whether it is given or not
-filled_slot : (g : given.Over) (c : After-overdue g) → Served (given_in (g.S.Supply.meaning c.args.supply.now) c.args.phase) (timed_list (rows_of c.args.self.now.lines.now) c.args.self.now.jobs.now) (line_at c.args.self.now.jobs.now) c.if-after-before.slots c.loop-s.s c.admit-next.result c.if-after-before.table.jobs
+filled_slot : (g : given.Over) (c : After-overdue g) → Served (given_in (g.S.Supply.meaning c.args.supply.now) c.args.phase) (jobs_of c.args.self.now) (line_of c.args.self.now) c.if-after-before.slots c.loop-s.s c.admit-next.result c.if-after-before.table.jobs
 filled_slot g c =
     let meaning = g.S.Supply.meaning c.args.supply.now in
     let given = given_in meaning c.args.phase in
-    let jobs = timed_list (rows_of c.args.self.now.lines.now) c.args.self.now.jobs.now in
-    let lines = line_at c.args.self.now.jobs.now in
+    let jobs = jobs_of c.args.self.now in
+    let lines = line_of c.args.self.now in
     let slots = c.loop-s.slots in
     let s = c.loop-s.s in
     let filled = c.loop-s.invariant.0 in
@@ -60,8 +61,8 @@ filled_slot g c =
 pub returns-in-Some : goal.returns-in-Some
 returns-in-Some g c =
     let given = given_in (g.S.Supply.meaning c.args.supply.now) c.args.phase in
-    let jobs = timed_list (rows_of c.args.self.now.lines.now) c.args.self.now.jobs.now in
-    let lines = line_at c.args.self.now.jobs.now in
+    let jobs = jobs_of c.args.self.now in
+    let lines = line_of c.args.self.now in
     let slots = c.if-after-before.slots in
     let served = filled_slot g (goal.at.returns-in-Some g c).After-overdue in
     let late = c.in-Some.ensures in
@@ -74,19 +75,19 @@ returns-in-Some g c =
 pub loop-s-preserved : goal.loop-s-preserved
 loop-s-preserved g c =
     let given = given_in (g.S.Supply.meaning c.args.supply.now) c.args.phase in
-    let jobs = timed_list (rows_of c.args.self.now.lines.now) c.args.self.now.jobs.now in
-    let lines = line_at c.args.self.now.jobs.now in
+    let jobs = jobs_of c.args.self.now in
+    let lines = line_of c.args.self.now in
     let served = filled_slot g (goal.at.loop-s-preserved g c).After-overdue in
     let later = c.in_default.ensures in
     let filled = filled_more given jobs lines c.args.self.now.keeping c.if-after-before.slots c.loop-s.s _ _ served (λ i job w. omega (arith, later i job w, add-one c.loop-s.s)) in
     (subst (λ s. Filled given jobs lines c.if-after-before.slots s c.admit-next.result c.if-after-before.table.jobs) (sym (add-one c.loop-s.s)) filled, c.count-after.ensures)
 
-pub returns : goal.returns
-returns g c =
+pub returns-clause-runs : goal.returns-clause-runs
+returns-clause-runs g c =
     let rows = rows_of c.args.self.now.lines.now in
     let given = given_in (g.S.Supply.meaning c.args.supply.now) c.args.phase in
-    let jobs = timed_list (rows_of c.args.self.now.lines.now) c.args.self.now.jobs.now in
-    let lines = line_at c.args.self.now.jobs.now in
+    let jobs = jobs_of c.args.self.now in
+    let lines = line_of c.args.self.now in
     let at : c.loop-s.s ≡ c.args.self.now.last_deadline = omega (arith, c.loop-s-test.false) in
     let filled = subst (λ s. Filled given jobs lines c.loop-s.slots s c.loop-s.next c.loop-s.table.jobs) at c.loop-s.invariant.0 in
-    record { runs = filled_met given jobs lines c.args.self.now.keeping c.loop-s.slots c.args.self.now.last_deadline c.loop-s.next c.loop-s.table.jobs (λ k l. omega (arith, due_by_horizon rows c.args.self.now.jobs.now k l, c.args.self.now.last)) filled; entries = filled.entries }
+    filled_met given jobs lines c.args.self.now.keeping c.loop-s.slots c.args.self.now.last_deadline c.loop-s.next c.loop-s.table.jobs (λ k l. omega (arith, due_by_horizon rows c.args.self.now.jobs.now k l, c.args.self.now.last)) filled
