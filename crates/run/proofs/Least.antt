@@ -1,17 +1,17 @@
 -- What `min_by_key` gives of a chain whose list is known: an element of the list, and none has a lesser key.
-use Rattle.std.proofs.Common.{◌≡◌, ℕ, ◌<◌, Bool, true, false, List, length, get_or, map, Some, None, Option, MatchOption, sym, refl, ap, ◌∙◌, subst, arith}
+use Rattle.std.proofs.Common.{◌≡◌, ℕ, ◌<◌, true, false, List, length, get_or, map, Some, None, Option, MatchOption, sym, refl, ap, ◌∙◌, subst, arith}
 use Rattle.std.proofs.iter.runs.Made.{took, at-is}
 use Rattle.std.proofs.iter.runs.Lists.{nth_read}
 use Rattle.std.proofs.lemmas.Iterator.{YieldsList, items_from_drains}
 use Rattle.std.proofs.lemmas.List.{get_or-map, length-map}
 use Rattle.std.specs.Fn.{CalledAt}
 use Rattle.std.specs.Iterator.{DrainsIf}
-use Rattle.std.specs.Iterator.Runs.{Run, WholeRun, AnyItem, AllItems, NoKeyBeyond, CallKeepsClosure}
+use Rattle.std.specs.Iterator.Runs.{Run, WholeRun, AnyItem, NoKeyBeyond, CallKeepsClosure}
 use Rattle.std.specs.List.{All, Contains}
 use Rattle.std.specs.Option.{IsSomeAnd}
 use Rattle.std.specs.Ordering.{is_lt}
 use Rattle.std.specs.declared.cmp.Ordering.{Ordering}
-use denote.Param.Members.{Mut, Called}
+use denote.Param.Members.{Mut}
 use denote.Ref.{Bor}
 
 module _ {S A B F K : Type 0} {steps : S → Option A → S → Type 0} {v : A → B} {s : S} {all : List B} (g : Mut F (Bor A × Unit {0}) K) (f : F) (cmp : K → K → Ordering) (key : B → K) (computes : (x : A) (k : K) (q : F) → CalledAt g f x k q → (q ≡ f) × (k ≡ key (v x))) (road : YieldsList steps v s all) where

@@ -1,6 +1,6 @@
 -- The jobs that wait in a table, each with its line, as a chain of iterators lists them.
-use Rattle.std.proofs.Common.{◌≡◌, ℕ, zero, suc, ◌+◌, ◌<◌, List, [], ◌∷◌, length, get_or, Some, None, Option, sym, refl, ap, ◌∙◌, subst, add-zero, arith}
-use Rattle.std.specs.List.{All, Contains, enumerate_from, filter_map}
+use Rattle.std.proofs.Common.{◌≡◌, ℕ, zero, suc, ◌+◌, ◌<◌, List, [], ◌∷◌, length, get_or, Some, None, Option, sym, ap, ◌∙◌, subst, add-zero, arith}
+use Rattle.std.specs.List.{All, enumerate_from, filter_map}
 use Rattle.std.specs.Option.{option_map}
 
 module _ {X : Type 0} where

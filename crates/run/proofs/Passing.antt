@@ -14,7 +14,7 @@ use Rattle.run.specs.Holding.{Keeping}
 use Rattle.run.specs.Timed.{at, figures, line_at, timed, timed_list, largest, horizon}
 use Rattle.run.specs.declared.job.Job.{Job}
 use Rattle.std.proofs.lemmas.List.{get_or-set_same, get_or-set_other, get_or_past, get_or-replicate, get_or-map, length-map, length-set}
-use Rattle.std.proofs.lemmas.Bool.{cases_lt, cases_eq, or_parts, ltb-false, leb-false, lt-ltb, le-ltb, cond-true, cond-false}
+use Rattle.std.proofs.lemmas.Bool.{cases_lt, cases_eq, or_parts, ltb-false, lt-ltb, le-ltb, cond-true, cond-false}
 use native.Mathlib.Decide.{le_ind}
 
 -- the job at a place as a timed one

@@ -1,4 +1,4 @@
-use Rattle.std.proofs.Common.{◌≡◌, ℕ, ◌≤◌, List, length, Some, sym, refl, ap, ◌∙◌, subst, arith}
+use Rattle.std.proofs.Common.{◌≡◌, ℕ, List, length, Some, sym, refl, ap, ◌∙◌, subst, arith}
 use Rattle.edf.proofs.Run.{run_exact, run_optimal}
 use Rattle.edf.specs.Jobs.{Job as Timed}
 use Rattle.edf.specs.Run.{Outcome, met, missed, Runs}

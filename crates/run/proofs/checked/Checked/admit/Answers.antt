@@ -1,11 +1,11 @@
-use Rattle.std.proofs.Common.{◌≡◌, ℕ, suc, ◌+◌, ◌-◌, ◌<◌, ◌≤◌, length, set, take, drop, Some, refl, ap, ◌∙◌, subst, arith}
+use Rattle.std.proofs.Common.{◌≡◌, suc, ◌+◌, ◌-◌, ◌≤◌, length, set, take, drop, Some, refl, ap, ◌∙◌, subst, arith}
 use Rattle.edf.specs.Jobs.{job}
 use Rattle.lines.specs.Of.{rows_of}
 use Rattle.run.proofs.Admitting.{cursor_more, cursor_all, admits_more}
 use Rattle.run.proofs.Ahead.{ahead_is}
 use Rattle.run.proofs.Passing.{due_by_horizon}
 use Rattle.run.proofs.checked.Checked.admit.Goals as goal
-use Rattle.run.specs.Holding.{Cursor, Admits}
+use Rattle.run.specs.Holding.{Admits}
 use Rattle.run.specs.Timed.{at, line_at, timed, timed_list}
 use Rattle.run.specs.declared.ready.Ready.{Ready}
 use Rattle.std.proofs.lemmas.List.{length-map, length-take, length-drop}

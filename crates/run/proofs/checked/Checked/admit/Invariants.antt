@@ -1,4 +1,4 @@
-use Rattle.std.proofs.Common.{◌+◌, ◌≤◌, length}
+use Rattle.std.proofs.Common.{◌+◌}
 use Rattle.run.proofs.checked.Checked.admit.Given as goal
 use Rattle.run.specs.Holding.{Cursor, Admits}
 use Rattle.run.specs.Listed.{jobs_of, line_of}

@@ -1,4 +1,4 @@
-use Rattle.std.proofs.Common.{◌≡◌, ℕ, ◌<◌, length, None, sym, ap, ◌∙◌, subst, arith}
+use Rattle.std.proofs.Common.{◌≡◌, length, sym, ap, ◌∙◌, subst, arith}
 use Rattle.lines.specs.Of.{rows_of}
 use Rattle.refusal.specs.Answers.{refusal_of}
 use Rattle.run.proofs.Passing.{Passed, passed_none, checks_same, passed_more, passed_keeping, first_refusal, list_refused}

@@ -25,8 +25,8 @@ pub returns : goal.returns
 returns c =
     foremost_listed c.args.self.now.jobs c.min_by_key.result
     (least_from_yields_List _ c.min_by_key.result c.min_by_key.ensures.runs
-        (YieldsList-from_filter_map _ with_place (YieldsList-from_enumerate (YieldsList-from_slice c.args.self.now.jobs cc) cc) c.filter_map.ensures.closure (λ x r q k. search (rules, tests)))
-        (λ p. p.1.rank)
-        (λ x k q called. search (rules, tests))
-        (λ p q. Leads p.1 q.1)
-        (λ p q e. record { earlier = grind arith; lower = λ same. grind arith }))
+    (YieldsList-from_filter_map _ with_place (YieldsList-from_enumerate (YieldsList-from_slice c.args.self.now.jobs cc) cc) c.filter_map.ensures.closure (λ x r q k. search (rules, tests)))
+    (λ p. p.1.rank)
+    (λ x k q called. search (rules, tests))
+    (λ p q. Leads p.1 q.1)
+    (λ p q e. record { earlier = grind arith; lower = λ same. grind arith }))
