@@ -36,7 +36,7 @@ module _ (roster : Roster Named) (bytes : List ℕ) (at before : ℕ) (g : Going
     lengths =
         sym (length-drop at bytes) ∙ ap length took.rest_is ∙ length-append (spelled took.r) took.more ∙ ap (λ n. n + length took.more) (sym took.size_is)
 
-    pub record_within : at + size ≤ length bytes
+    record_within : at + size ≤ length bytes
     record_within = omega (arith, lengths, g.within)
 
     pub record_some : 0 < size

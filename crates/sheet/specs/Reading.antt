@@ -1,11 +1,12 @@
 -- What reading a sheet answers, and the roster that it leaves. Assumes nothing.
-use Rattle.std.specs.Prelude.{◌≡◌, ℕ, suc, ◌≤◌, List, [], map, length, drop, Ok, Err, Result}
+use Rattle.std.specs.Prelude.{◌≡◌, ℕ, suc, ◌+◌, ◌<◌, ◌≤◌, List, [], ◌++◌, map, length, drop, Some, None, Ok, Err, Option, Result}
 use Rattle.analysis.specs.History.{Reached}
 use Rattle.grammar.specs.Reading.{rows_through, watched_through, GoodTo, Accepted, Refused}
-use Rattle.grammar.specs.Records.{Record, line, calls_of, sheet}
+use Rattle.grammar.specs.Records.{Record, line, calls_of, closing, sheet}
 use Rattle.grammar.specs.Supplies.{supply_of}
 use Rattle.grammar.specs.declared.fields.Fields.{Fields}
 use Rattle.lines.specs.declared.row.Row.{Row}
+use Rattle.refusal.specs.declared.Refusal.{Refusal}
 use Rattle.roster.specs.Working.{rows_in, watched_in}
 use Rattle.roster.specs.declared.roster.Roster.{Roster}
 use Rattle.sheet.specs.declared.sheet_refusal.SheetRefusal.{SheetRefusal}
@@ -27,6 +28,10 @@ pub record Leaves (bytes : List ℕ) (roster : Roster Named) : Type 0 where
   pub history : Reached (named roster.supply) (calls_of records) (rows_in roster) (watched_in roster)
   -- and a sheet of lines alone is what writing these lines gives
   pub rewritten : (rows : List Row) → records ≡ map line rows → bytes ≡ sheet fields (map line (rows_in roster))
+
+-- A refusal at the record with a number, which begins at a byte; 0 and 0 where it is about no record.
+abbrev pub refused_at : Refusal → (number byte : ℕ) → SheetRefusal
+refused_at why number byte = record { refusal = why; «record» = number; byte = byte }
 
 -- Why a sheet is refused.
 abbrev pub TurnedDown : List ℕ → SheetRefusal → Type 0
@@ -59,3 +64,9 @@ pub record Going (roster : Roster Named) (bytes : List ℕ) (at before : ℕ) : 
   pub supply : named roster.supply ≡ supply_of fields
   pub lines : rows_in roster ≡ rows_through [] (calls_of records)
   pub watched : watched_in roster ≡ watched_through [] [] (calls_of records)
+
+-- The reader takes the next record and goes on behind it, or that is the last and counts those before it, or the sheet is refused.
+abbrev pub Next : (old new : Roster Named) (bytes : List ℕ) (at before : ℕ) → Result (Option ℕ) SheetRefusal → Type 0
+Next old new bytes at before (Ok (Some size)) = (0 < size) × Going new bytes (at + size) (before + 1)
+Next old new bytes at before (Ok None) = (new ≡ old) × ((more : List ℕ) × (drop at bytes ≡ closing before ++ more))
+Next old new bytes at before (Err e) = TurnedDown bytes e

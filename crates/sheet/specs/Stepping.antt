@@ -1,5 +1,5 @@
 -- What the reader makes of one record. Assumes nothing.
-use Rattle.std.specs.Prelude.{◌≡◌, ℕ, List, ◌++◌, length, None, Ok, Err, Result}
+use Rattle.std.specs.Prelude.{◌≡◌, ℕ, List, ◌++◌, length, Some, None, Ok, Err, Option, Result}
 use Rattle.analysis.specs.History.{rows_after, watched_after}
 use Rattle.grammar.specs.Reading.{FaultFirst, Fault}
 use Rattle.grammar.specs.Records.{Record, call_of, spelled, opening, closing}
@@ -10,8 +10,6 @@ use Rattle.refusal.specs.Answers.{refusal_of}
 use Rattle.refusal.specs.declared.Refusal.{Refusal}
 use Rattle.roster.specs.Working.{checks, rows_in, watched_in}
 use Rattle.roster.specs.declared.roster.Roster.{Roster}
-use Rattle.sheet.specs.declared.step.Step.{Step}
-use Rattle.sheet.specs.declared.step.Step.TheVariants.{Taken, Closed}
 use Rattle.supply.specs.Named.{named}
 use Rattle.supply.specs.declared.named.Named.{Named}
 use Rattle.supply.specs.Meaning.{Meaning}
@@ -47,10 +45,10 @@ abbrev pub Taking : Roster Named → Roster Named → List ℕ → Result ℕ Re
 Taking before after rest (Ok size) = Takes before after rest size
 Taking before after rest (Err why) = (count : ℕ) → Faulty before count rest why
 
--- The next record is taken, or it is the last and counts those before it, or it is at fault.
-abbrev pub Stepping : Roster Named → Roster Named → (count : ℕ) → List ℕ → Result Step Refusal → Type 0
-Stepping before after count rest (Ok (Taken size)) = Takes before after rest size
-Stepping before after count rest (Ok Closed) = (after ≡ before) × ((more : List ℕ) × (rest ≡ closing count ++ more))
+-- The next record is taken, or it is the last, without a length, and counts those before it, or it is at fault.
+abbrev pub Stepping : Roster Named → Roster Named → (count : ℕ) → List ℕ → Result (Option ℕ) Refusal → Type 0
+Stepping before after count rest (Ok (Some size)) = Takes before after rest size
+Stepping before after count rest (Ok None) = (after ≡ before) × ((more : List ℕ) × (rest ≡ closing count ++ more))
 Stepping before after count rest (Err why) = Faulty before count rest why
 
 -- The fields of the last record count those before it, or are at fault whatever these left.

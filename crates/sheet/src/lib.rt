@@ -6,7 +6,6 @@ mod reading;
 mod records;
 mod reporting;
 mod sheet_refusal;
-mod step;
 mod supplies;
 mod writing;
 

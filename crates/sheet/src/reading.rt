@@ -1,10 +1,9 @@
 // Reading a sheet into a roster.
 ghost use Rattle.std.specs.Prelude.{◌≤◌, length};
-ghost use Rattle.sheet.specs.Reading.{Going, Reads, ReadsInto};
+ghost use Rattle.sheet.specs.Reading.{Going, Next, Reads, ReadsInto};
 
 use crate::records::{by_sheet, first, step};
 use crate::sheet_refusal::SheetRefusal;
-use crate::step::Step;
 use refusal::Reason;
 use roster::Roster;
 use supply::{Bottom, Named, Whole};
@@ -17,6 +16,19 @@ const FIRST: usize = 13;
 
 const LAST: usize = 4;
 
+// Takes the record at a byte of a sheet, behind so many others, and answers its length, or none for the last.
+fn next(
+    roster: &mut Roster<Named>,
+    bytes: &[u8],
+    at: usize,
+    before: u32,
+) -> Result<Option<usize>, SheetRefusal>
+    requires { Going roster.old bytes.now at before × (length bytes.now ≤ 16384) }
+    ensures { Next roster.old roster.new bytes.now at before result }
+{
+    step(roster, &bytes[at..], before).map_err(|why| SheetRefusal::at(why, before + 1, at as u32))
+}
+
 // Takes the records of a sheet behind its first one, to its end.
 fn records(mut roster: Roster<Named>, bytes: &[u8]) -> Result<Roster<Named>, SheetRefusal>
     requires { Going roster bytes.now 13 1 × (length bytes.now ≤ 16384) }
@@ -24,35 +36,16 @@ fn records(mut roster: Roster<Named>, bytes: &[u8]) -> Result<Roster<Named>, She
 {
     let mut at = FIRST;
     let mut before = 1;
-    loop {
-        let record = match step(&mut roster, &bytes[at..], before) {
-            Ok(record) => record,
-            Err(refusal) => {
-                return Err(SheetRefusal {
-                    refusal,
-                    record: before + 1,
-                    byte: at as u32,
-                });
-            }
-        };
-        match record {
-            Step::Taken(size) => {
-                at += size;
-                before += 1;
-            }
-            Step::Closed => {
-                let end = at + LAST;
-                if end < bytes.len() {
-                    return Err(SheetRefusal {
-                        refusal: by_sheet(Reason::BytesAfterEnd),
-                        record: before + 2,
-                        byte: end as u32,
-                    });
-                }
-                return Ok(roster);
-            }
-        }
+    while let Some(size) = next(&mut roster, bytes, at, before)? {
+        at += size;
+        before += 1;
     }
+    let end = at + LAST;
+    if end < bytes.len() {
+        let why = by_sheet(Reason::BytesAfterEnd);
+        return Err(SheetRefusal::at(why, before + 2, end as u32));
+    }
+    Ok(roster)
 }
 
 // The roster of a sheet.
@@ -60,34 +53,17 @@ pub fn from_bytes(bytes: &[u8]) -> Result<Roster<Named>, SheetRefusal>
     ensures { Reads bytes.now result }
 {
     if bytes.len() > LONGEST {
-        return Err(SheetRefusal {
-            refusal: by_sheet(Reason::TooLarge),
-            record: 0,
-            byte: 0,
-        });
+        return Err(by_sheet(Reason::TooLarge).into());
     }
-    match first(bytes) {
-        Ok(supply) => records(Roster::open(supply), bytes),
-        Err(refusal) => Err(SheetRefusal {
-            refusal,
-            record: 1,
-            byte: 0,
-        }),
-    }
+    let supply = first(bytes).map_err(|why| SheetRefusal::at(why, 1, 0))?;
+    records(Roster::open(supply), bytes)
 }
 
 // Reads a sheet into a roster, in place of what it held. A refused sheet leaves it without lines, on the whole processor.
 pub fn read(roster: &mut Roster<Named>, bytes: &[u8]) -> Result<(), SheetRefusal>
     ensures { ReadsInto bytes.now roster.new result }
 {
-    match from_bytes(bytes) {
-        Ok(read) => {
-            *roster = read;
-            Ok(())
-        }
-        Err(refusal) => {
-            *roster = Roster::open(Named::Plain(Bottom::Whole(Whole)));
-            Err(refusal)
-        }
-    }
+    *roster = Roster::open(Named::Plain(Bottom::Whole(Whole)));
+    *roster = from_bytes(bytes)?;
+    Ok(())
 }

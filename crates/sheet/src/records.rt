@@ -3,7 +3,6 @@ ghost use Rattle.grammar.specs.Reading.{by_sheet};
 ghost use Rattle.sheet.specs.Stepping.{Opening, Taking, Closing, Stepping};
 ghost use Rattle.std.specs.Prelude.{◌≡◌, ◌++◌, codes};
 
-use crate::step::Step;
 use crate::supplies::supply_of;
 use grammar::Fields;
 use lines::Row;
@@ -89,16 +88,20 @@ fn closed(fields: &[u8], before: u32) -> Result<(), Refusal>
     Ok(())
 }
 
-// Takes the record at the front of the rest of a sheet, behind so many others.
-pub(crate) fn step(roster: &mut Roster<Named>, rest: &[u8], before: u32) -> Result<Step, Refusal>
+// Takes the record at the front of the rest of a sheet, behind so many others, and answers its length, or none for the last.
+pub(crate) fn step(
+    roster: &mut Roster<Named>,
+    rest: &[u8],
+    before: u32,
+) -> Result<Option<usize>, Refusal>
     ensures { Stepping roster.old roster.new before rest.now result }
 {
     match rest {
-        [b'L', b'N', fields @ ..] => Ok(Step::Taken(enrolled(roster, fields)?)),
-        [b'C', b'U', fields @ ..] => Ok(Step::Taken(cut(roster, fields)?)),
+        [b'L', b'N', fields @ ..] => Ok(Some(enrolled(roster, fields)?)),
+        [b'C', b'U', fields @ ..] => Ok(Some(cut(roster, fields)?)),
         [b'E', b'N', fields @ ..] => {
             closed(fields, before)?;
-            Ok(Step::Closed)
+            Ok(None)
         }
         [_, _, ..] => Err(by_sheet(Reason::MarkMisplaced)),
         _ => Err(by_sheet(Reason::SheetCutShort)),

@@ -26,8 +26,6 @@ pub fn supply_of(fields: Fields) -> Result<Named, Refusal>
     if fields.share == 0 && fields.of == 0 {
         return Ok(Named::Plain(bottom));
     }
-    match Share::new(bottom, fields.share, fields.of) {
-        Ok(share) => Ok(Named::Shared(share)),
-        Err(back) => Err(back.refusal),
-    }
+    let share = Share::new(bottom, fields.share, fields.of).map_err(|back| back.refusal)?;
+    Ok(Named::Shared(share))
 }
