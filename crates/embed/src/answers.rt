@@ -1,4 +1,5 @@
-// What C code is answered. include/zucchinicove.h has the same structs, with names for the numbers of kinds and layers.
+// What C code is answered. include/zucchinicove.h has the same structs, with names for the numbers of kinds and layers: C
+// reads a kind as a number, and has the fields of every kind beside it, so they are no enums here.
 
 // Why a call is refused: the reason's number, the layer from 1, the place, the sheet's record and its first byte. All are
 // 0 where nothing is refused; record and byte are 0 where it is not the sheet that is refused.

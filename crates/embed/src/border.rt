@@ -1,5 +1,5 @@
 // From the answers of the library to those for C code.
-ghost use Rattle.embed.specs.Border.{layer_code, refused_as, without_record, on_sheet, report_as, verdict_as, run_as};
+ghost use Rattle.embed.specs.Border.{layer_code, refused_as, report_as, verdict_as, run_as};
 ghost use Rattle.std.specs.Prelude.{◌≡◌};
 
 use crate::answers::{Refused, ReportAnswer, RunAnswer, VerdictAnswer};
@@ -32,7 +32,7 @@ const NOTHING: Refused = Refused {
     byte: 0,
 };
 
-// The number by which C code knows a layer.
+// The number by which C code knows a layer. It is the header's, whatever the order in which the layers are declared.
 fn layer_code(layer: Layer) -> u8
     ensures { result ≡ layer_code layer }
 {
@@ -45,102 +45,89 @@ fn layer_code(layer: Layer) -> u8
 }
 
 // Why a sheet, or a call on it, is refused.
-fn refused_as(why: SheetRefusal) -> Refused
-    ensures { result ≡ refused_as why }
-{
-    Refused {
-        number: why.refusal.reason.number(),
-        layer: layer_code(why.refusal.layer),
-        place: why.refusal.place,
-        record: why.record,
-        byte: why.byte,
+impl From<SheetRefusal> for Refused {
+    ghost from_gives = { λ why told. told ≡ refused_as why };
+
+    fn from(why: SheetRefusal) -> Refused {
+        Refused {
+            number: why.refusal.reason.number(),
+            layer: layer_code(why.refusal.layer),
+            place: why.refusal.place,
+            record: why.record,
+            byte: why.byte,
+        }
     }
 }
 
-// A refusal that is not about the sheet's bytes.
-fn without_record(refusal: Refusal) -> SheetRefusal
-    ensures { result ≡ without_record refusal }
-{
-    SheetRefusal {
-        refusal,
-        record: 0,
-        byte: 0,
-    }
-}
+// What a report answers. Its own refusals are not about the sheet's bytes.
+impl From<Result<usize, Refusal>> for ReportAnswer {
+    ghost from_gives = { λ written told. told ≡ report_as written };
 
-// How a run on the lines of a sheet ends: its own refusals are not about the sheet's bytes.
-pub(crate) fn on_sheet(ran: Result<Outcome, Refusal>) -> Result<Outcome, SheetRefusal>
-    ensures { result ≡ on_sheet ran }
-{
-    match ran {
-        Ok(outcome) => Ok(outcome),
-        Err(why) => Err(without_record(why)),
-    }
-}
-
-// What a report answers.
-pub(crate) fn report_as(written: Result<usize, Refusal>) -> ReportAnswer
-    ensures { result ≡ report_as written }
-{
-    match written {
-        Ok(length) => ReportAnswer {
-            kind: WRITTEN,
-            length,
-            refused: NOTHING,
-        },
-        Err(why) => ReportAnswer {
-            kind: REFUSED,
-            length: 0,
-            refused: refused_as(without_record(why)),
-        },
+    fn from(written: Result<usize, Refusal>) -> ReportAnswer {
+        match written {
+            Ok(length) => ReportAnswer {
+                kind: WRITTEN,
+                length,
+                refused: NOTHING,
+            },
+            Err(why) => ReportAnswer {
+                kind: REFUSED,
+                length: 0,
+                refused: SheetRefusal::from(why).into(),
+            },
+        }
     }
 }
 
 // What a verdict answers.
-pub(crate) fn verdict_as(verdict: Result<Option<u16>, SheetRefusal>) -> VerdictAnswer
-    ensures { result ≡ verdict_as verdict }
-{
-    match verdict {
-        Ok(None) => VerdictAnswer {
-            kind: FITS,
-            deadline: 0,
-            refused: NOTHING,
-        },
-        Ok(Some(deadline)) => VerdictAnswer {
-            kind: OVERLOADED,
-            deadline,
-            refused: NOTHING,
-        },
-        Err(why) => VerdictAnswer {
-            kind: REFUSED,
-            deadline: 0,
-            refused: refused_as(why),
-        },
+impl From<Result<Option<u16>, SheetRefusal>> for VerdictAnswer {
+    ghost from_gives = { λ verdict told. told ≡ verdict_as verdict };
+
+    fn from(verdict: Result<Option<u16>, SheetRefusal>) -> VerdictAnswer {
+        match verdict {
+            Ok(None) => VerdictAnswer {
+                kind: FITS,
+                deadline: 0,
+                refused: NOTHING,
+            },
+            Ok(Some(deadline)) => VerdictAnswer {
+                kind: OVERLOADED,
+                deadline,
+                refused: NOTHING,
+            },
+            Err(why) => VerdictAnswer {
+                kind: REFUSED,
+                deadline: 0,
+                refused: why.into(),
+            },
+        }
     }
 }
 
 // What a run answers.
-pub(crate) fn run_as(outcome: Result<Outcome, SheetRefusal>) -> RunAnswer
-    ensures { result ≡ run_as outcome }
-{
-    match outcome {
-        Ok(Outcome::Met) => RunAnswer {
-            kind: MET,
-            job: 0,
-            at: 0,
-            refused: NOTHING,
-        },
-        Ok(Outcome::Missed { job, at }) => RunAnswer {
-            kind: MISSED,
-            job,
-            at,
-            refused: NOTHING,
-        },
-        Err(why) => RunAnswer {
-            kind: REFUSED,
-            job: 0,
-            at: 0,
-            refused: refused_as(why),
-        },
+impl From<Result<Outcome, SheetRefusal>> for RunAnswer {
+    ghost from_gives = { λ ran told. told ≡ run_as ran };
+
+    fn from(ran: Result<Outcome, SheetRefusal>) -> RunAnswer {
+        match ran {
+            Ok(Outcome::Met) => RunAnswer {
+                kind: MET,
+                job: 0,
+                at: 0,
+                refused: NOTHING,
+            },
+            Ok(Outcome::Missed { job, at }) => RunAnswer {
+                kind: MISSED,
+                job,
+                at,
+                refused: NOTHING,
+            },
+            Err(why) => RunAnswer {
+                kind: REFUSED,
+                job: 0,
+                at: 0,
+                refused: why.into(),
+            },
+        }
     }
 }

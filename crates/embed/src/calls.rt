@@ -1,7 +1,6 @@
 // The verdict of a sheet, and a run on its lines, before they cross to C code.
 ghost use Rattle.embed.specs.Promises.{Judges, RunsOnSheet};
 
-use crate::border::on_sheet;
 use run::{Job, Outcome};
 use sheet::{SheetRefusal, from_bytes};
 
@@ -9,13 +8,11 @@ use sheet::{SheetRefusal, from_bytes};
 pub(crate) fn judge(bytes: &[u8]) -> Result<Option<u16>, SheetRefusal>
     ensures { Judges bytes.now result }
 {
-    match from_bytes(bytes) {
-        Ok(roster) => Ok(roster.verdict()),
-        Err(refusal) => Err(refusal),
-    }
+    Ok(from_bytes(bytes)?.verdict())
 }
 
-// Runs a list of jobs of a sheet's lines in a phase of its supply, and fills the slot list.
+// Runs a list of jobs of a sheet's lines in a phase of its supply, and fills the slot list. The run's own refusals are not
+// about the sheet's bytes.
 pub(crate) fn run_on(
     bytes: &[u8],
     phase: u32,
@@ -24,8 +21,6 @@ pub(crate) fn run_on(
 ) -> Result<Outcome, SheetRefusal>
     ensures { RunsOnSheet bytes.now phase jobs.now slots.old slots.new result }
 {
-    match from_bytes(bytes) {
-        Ok(roster) => on_sheet(roster.run(phase, jobs, slots)),
-        Err(refusal) => Err(refusal),
-    }
+    let roster = from_bytes(bytes)?;
+    Ok(roster.run(phase, jobs, slots)?)
 }

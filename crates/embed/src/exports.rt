@@ -2,7 +2,6 @@
 ghost use Rattle.embed.specs.Promises.{ReportPromise, VerdictPromise, FitsExactly, RefusedExactly, RunPromise, NeverMissed};
 
 use crate::answers::{ReportAnswer, RunAnswer, VerdictAnswer};
-use crate::border::{report_as, run_as, verdict_as};
 use crate::calls::{judge, run_on};
 use run::Job;
 use sheet::report;
@@ -12,7 +11,7 @@ use sheet::report;
 pub extern "C" fn zucchinicove_report(bytes: &[u8], out: &mut [u8]) -> ReportAnswer
     ensures { ReportPromise bytes.now out.old out.new result }
 {
-    report_as(report(bytes, out))
+    report(bytes, out).into()
 }
 
 // The verdict on the lines of a sheet.
@@ -22,7 +21,7 @@ pub extern "C" fn zucchinicove_verdict(bytes: &[u8]) -> VerdictAnswer
     ensures fits { FitsExactly bytes.now result }
     ensures refused { RefusedExactly bytes.now result }
 {
-    verdict_as(judge(bytes))
+    judge(bytes).into()
 }
 
 // Runs a list of jobs of a sheet's lines in a phase of its supply, and fills the slot list.
@@ -36,5 +35,5 @@ pub extern "C" fn zucchinicove_run(
     ensures tells { RunPromise bytes.now phase jobs.now slots.old slots.new result }
     ensures admitted { NeverMissed bytes.now jobs.now result }
 {
-    run_as(run_on(bytes, phase, jobs, slots))
+    run_on(bytes, phase, jobs, slots).into()
 }

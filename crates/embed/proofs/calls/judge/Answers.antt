@@ -1,10 +1,10 @@
 use Rattle.embed.proofs.calls.judge.Goals as goal
 
-pub returns-in-Ok : goal.returns-in-Ok
-returns-in-Ok c =
-    let leaves = c.in-Ok.ensures in
+pub returns : goal.returns
+returns c =
+    let leaves = c.in_ok-from_bytes.ensures in
     record {
-      roster = c.in-Ok.roster;
+      roster = c.in_ok-from_bytes.field-0;
       leaves = leaves;
       says = c.verdict.ensures.says;
       exact = c.verdict.ensures.exact _ leaves.history;

@@ -1,20 +1,24 @@
 use Rattle.embed.proofs.calls.run_on.Goals as goal
-use Rattle.embed.specs.Promises.{RunsOnSheet, refused, ran}
-use Rattle.std.proofs.Common.{sym, refl, subst}
+use Rattle.embed.specs.Promises.{refused, ran}
+use Rattle.std.proofs.Common.{Ok, Err, refl, rules}
+use Rattle.std.proofs.lemmas.Result.{err_from_is_err_and}
 
-pub returns-in-Ok : goal.returns-in-Ok
-returns-in-Ok c =
-    let leaves = c.in-Ok.ensures in
-    let said = c.run.ensures in
-    subst (λ r. RunsOnSheet c.args.bytes.now c.args.phase c.args.jobs.now c.args.slots.now c.run.new.slots r) (sym c.on_sheet.ensures) (ran c.in-Ok.roster c.run.result leaves (record {
-      refused_by_checks = said.refused_by_checks;
-      refusal_leaves_slots = said.refusal_leaves_slots;
-      slots_follow_edf = said.slots_follow_edf;
-      entries_well_written = said.entries_well_written;
-      met_exactly = said.met_exactly;
-      miss_is_final = said.miss_is_final;
-      fitting_lines_meet_all = said.fitting_lines_meet_all _ leaves.history;
-    }))
+pub returns-in_err-roster : goal.returns-in_err-roster
+returns-in_err-roster c =
+    let p = err_from_is_err_and c.from_residual.result c.from_residual.ensures.1 in
+    rw (p.1, p.2) (refused c.in_err-roster.field-0.0 c.in_err-roster.ensures refl)
 
-pub returns-in-Err : goal.returns-in-Err
-returns-in-Err c = refused c.in-Err.refusal c.in-Err.ensures refl
+pub returns-in_err-run : goal.returns-in_err-run
+returns-in_err-run c =
+    let p = err_from_is_err_and c.from_residual-in_err-run.result c.from_residual-in_err-run.ensures.1 in
+    let leaves = c.in_ok-roster.ensures in
+    let said = c.in_err-run.ensures in
+    let meets = said.fitting_lines_meet_all _ leaves.history in
+    rw (p.1, p.2) (ran c.in_ok-roster.roster (Err c.in_err-run.field-0.0) leaves (search rules))
+
+pub returns : goal.returns
+returns c =
+    let leaves = c.in_ok-roster.ensures in
+    let said = c.in_ok-run.ensures in
+    let meets = said.fitting_lines_meet_all _ leaves.history in
+    ran c.in_ok-roster.roster (Ok c.in_ok-run.field-0) leaves (search rules)

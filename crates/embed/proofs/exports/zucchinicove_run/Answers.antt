@@ -1,15 +1,10 @@
 use Rattle.embed.proofs.Admitting.{never_missed}
 use Rattle.embed.proofs.exports.zucchinicove_run.Goals as goal
+use Rattle.embed.specs.Border.{run_as}
 use Rattle.embed.specs.Promises.{NeverMissed}
-use Rattle.std.proofs.Common.{sym, subst}
+use Rattle.std.proofs.Common.{◌≡◌, sym, subst, rules}
 
-pub returns : goal.returns
-returns c =
-    let bytes = c.args.bytes.now in
-    let jobs = c.args.jobs.now in
-    let runs = c.run_on.ensures in
-    let told = c.run_as.ensures in
-    record {
-      tells = (c.run_on.result, runs, told);
-      admitted = subst (λ answer. NeverMissed bytes jobs answer) (sym told) (never_missed bytes c.args.phase jobs c.args.slots.now c.run_on.new.slots c.run_on.result runs);
-    }
+pub returns-clause-admitted : goal.returns-clause-admitted
+returns-clause-admitted c =
+    let told : c.into.result ≡ run_as c.run_on.result = search rules in
+    subst (λ answer. NeverMissed c.args.bytes.now c.args.jobs.now answer) (sym told) (never_missed c.args.bytes.now c.args.phase c.args.jobs.now c.args.slots.now c.run_on.new.slots c.run_on.result c.run_on.ensures)

@@ -1,15 +1,15 @@
 use Rattle.embed.proofs.Admitting.{fits_exactly, refused_exactly}
 use Rattle.embed.proofs.exports.zucchinicove_verdict.Goals as goal
+use Rattle.embed.specs.Border.{verdict_as}
 use Rattle.embed.specs.Promises.{FitsExactly, RefusedExactly}
-use Rattle.std.proofs.Common.{sym, subst}
+use Rattle.std.proofs.Common.{◌≡◌, sym, subst, rules}
 
-pub returns : goal.returns
-returns c =
-    let bytes = c.args.bytes.now in
-    let judges = c.judge.ensures in
-    let told = c.verdict_as.ensures in
-    record {
-      tells = (c.judge.result, judges, told);
-      fits = subst (λ answer. FitsExactly bytes answer) (sym told) (fits_exactly bytes c.judge.result judges);
-      refused = subst (λ answer. RefusedExactly bytes answer) (sym told) (refused_exactly bytes c.judge.result judges);
-    }
+pub returns-clause-fits : goal.returns-clause-fits
+returns-clause-fits c =
+    let told : c.into.result ≡ verdict_as c.judge.result = search rules in
+    subst (λ answer. FitsExactly c.args.bytes.now answer) (sym told) (fits_exactly c.args.bytes.now c.judge.result c.judge.ensures)
+
+pub returns-clause-refused : goal.returns-clause-refused
+returns-clause-refused c =
+    let told : c.into.result ≡ verdict_as c.judge.result = search rules in
+    subst (λ answer. RefusedExactly c.args.bytes.now answer) (sym told) (refused_exactly c.args.bytes.now c.judge.result c.judge.ensures)
