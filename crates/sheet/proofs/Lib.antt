@@ -1,6 +1,7 @@
 pub mod Drafting
-pub mod Joining
 pub mod Mapped
 pub mod Reader
+pub mod Room
+pub mod Spelled
 pub mod Taking
 pub mod Written

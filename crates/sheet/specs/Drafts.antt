@@ -1,12 +1,12 @@
 -- The bytes of a draft, and when a lent list has no room for them. Assumes nothing.
-use Rattle.std.specs.Prelude.{ℕ, List, take, nat_lt}
+use Rattle.std.specs.Prelude.{ℕ, List, nat_lt}
 use Rattle.refusal.specs.Answers.{Check}
 use Rattle.refusal.specs.declared.layer.Layer.TheVariants.{Sheet}
 use Rattle.refusal.specs.declared.reason.Reason.TheVariants.{ListTooShort}
 use Rattle.sheet.specs.declared.draft.Draft.{Draft}
 
 abbrev pub drafted : Draft → List ℕ
-drafted draft = take draft.len draft.bytes
+drafted draft = draft.bytes.items
 
 -- A list of some length is too short for so many bytes as are needed; the place is that number.
 abbrev pub room_check : (needed room : ℕ) → Check

@@ -1,6 +1,7 @@
 // Sheets: the bytes by which a roster travels from office to office, read, written and reported on.
 #![tactic(auto)]
 
+mod digits;
 mod draft;
 mod reading;
 mod records;

@@ -4,6 +4,7 @@ ghost use Rattle.roster.specs.Working.{rows_in, watched_in};
 ghost use Rattle.sheet.specs.Drafts.{drafted};
 ghost use Rattle.sheet.specs.Reports.{layer_name, figures, refusal_text, Tells, Reported};
 
+use crate::digits::digits;
 use crate::draft::Draft;
 use crate::reading::from_bytes;
 use crate::sheet_refusal::SheetRefusal;
@@ -11,7 +12,7 @@ use refusal::{Layer, Refusal};
 use roster::Roster;
 use supply::Named;
 
-// A layer's name.
+// A layer's name, as bytes: its `Display` needs a `write!`, which may fail by its contract where a report may not.
 fn layer_name(layer: Layer) -> &'static [u8]
     ensures name { result.now ≡ layer_name layer }
     ensures brief { length result.now ≤ 6 }
@@ -28,16 +29,19 @@ fn layer_name(layer: Layer) -> &'static [u8]
 fn refusal_line(refusal: SheetRefusal) -> Draft
     ensures { drafted result ≡ refusal_text refusal }
 {
+    let why = refusal.refusal;
     let mut draft = Draft::none();
-    draft.push_all(b"refused ");
-    draft.push_number(u32::from(refusal.refusal.reason.number()));
-    draft.push(b' ');
-    draft.push_all(layer_name(refusal.refusal.layer));
-    draft.push_all(b" record ");
-    draft.push_number(refusal.record);
-    draft.push_all(b" byte ");
-    draft.push_number(refusal.byte);
-    draft.push(b'\n');
+    draft.push_all(&[
+        b"refused ",
+        digits(u32::from(why.reason.number())).as_slice(),
+        b" ",
+        layer_name(why.layer),
+        b" record ",
+        digits(refusal.record).as_slice(),
+        b" byte ",
+        digits(refusal.byte).as_slice(),
+        b"\n",
+    ]);
     draft
 }
 
@@ -47,9 +51,15 @@ fn counts(roster: &Roster<Named>) -> Draft
     ensures room { length (drafted result) ≤ 56 }
 {
     let mut draft = Draft::none();
-    draft.push_figure(b"lines", roster.lines().len() as u32);
-    draft.push_figure(b"rest", u32::from(roster.lines().first_rest()));
-    draft.push_figure(b"watched", roster.watched().len() as u32);
+    draft.push_all(&[
+        b"lines ",
+        digits(roster.lines().len() as u32).as_slice(),
+        b"\nrest ",
+        digits(u32::from(roster.lines().first_rest())).as_slice(),
+        b"\nwatched ",
+        digits(roster.watched().len() as u32).as_slice(),
+        b"\n",
+    ]);
     draft
 }
 
@@ -59,8 +69,8 @@ fn figures_text(roster: &Roster<Named>) -> Draft
 {
     let mut draft = counts(roster);
     match roster.verdict() {
-        Some(t) => draft.push_figure(b"overloaded", u32::from(t)),
-        None => draft.push_all(b"fits\n"),
+        Some(t) => draft.push_all(&[b"overloaded ", digits(u32::from(t)).as_slice(), b"\n"]),
+        None => draft.push_all(&[b"fits\n"]),
     }
     draft
 }

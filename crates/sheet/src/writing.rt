@@ -58,13 +58,11 @@ fn plain_sheet(lines: &Lines, fields: Fields) -> Draft
     ensures { drafted result ≡ plain_sheet fields (rows_of lines.now) }
 {
     let mut draft = Draft::none();
-    draft.push_all(&opening_bytes(fields));
-    let mut number = 0;
-    while let Some(line) = lines.get(number) {
-        draft.push_all(&line_bytes(line.row()));
-        number += 1;
+    draft.push_all(&[&opening_bytes(fields)]);
+    for line in lines.as_slice() {
+        draft.push_all(&[&line_bytes(line.row())]);
     }
-    draft.push_all(&closing_bytes(1 + number as u16));
+    draft.push_all(&[&closing_bytes(1 + lines.len() as u16)]);
     draft
 }
 

@@ -1,42 +1,47 @@
+<<<<<<< HEAD
 use Rattle.std.proofs.Common.{◌≡◌, ◌++◌, length, sym, ap, ◌∙◌, arith}
 use Rattle.grammar.specs.Records.{opening}
 use Rattle.lines.specs.Of.{rows_of}
 use Rattle.sheet.proofs.Drafting.{written_to, written_none, written_more, rows_few, draft_length, draft_whole}
+=======
+use Rattle.std.proofs.Common.{◌≡◌, ◌+◌, [], length, sym, ap, ◌∙◌, arith}
+use Rattle.grammar.specs.Records.{closing}
+use Rattle.lines.proofs.Rows.{row_at, rows_length}
+use Rattle.lines.specs.Rows.{line_rows}
+use Rattle.sheet.proofs.Drafting.{draft_opened, draft_length, draft_more, draft_whole}
+>>>>>>> dddfa86 (Put drafts of sheets together from pieces, in a short list)
 use Rattle.sheet.proofs.writing.plain_sheet.Goals as goal
-use Rattle.sheet.specs.Drafts.{drafted}
-use Rattle.std.proofs.lemmas.List.{append_assoc}
+use Rattle.sheet.specs.Writing.{plain_sheet}
+use Rattle.std.proofs.lemmas.List.{length-append}
 
 pub loop-line-init : goal.loop-line-init
-loop-line-init c = (omega arith, written_none (rows_of c.args.lines.now) _)
+loop-line-init c =
+    draft_opened c.args.fields (line_rows c.as_slice-line-items.result.now) _ _ _ c.none-draft.ensures c.opening_bytes.ensures c.push_all.ensures
 
-pub push_all-requires-in-Some : goal.push_all-requires-in-Some
-push_all-requires-in-Some c =
-    let rows = rows_of c.args.lines.now in
-    let front : drafted c.push_all.new.self ≡ opening c.args.fields = c.push_all.ensures.bytes ∙ ap (λ x. x ++ c.opening_bytes.result) c.none-draft.ensures ∙ c.opening_bytes.ensures in
-    omega (arith, draft_length c.args.fields rows _ _ c.loop-line.number front c.loop-line.invariant.1 c.loop-line.invariant.0, rows_few c.args.lines.now, c.in-Some.ensures.0, ap length c.line_bytes.ensures)
+pub push_all-requires-in-loop-line : goal.push_all-requires-in-loop-line
+push_all-requires-in-loop-line c =
+    let lines = c.as_slice-line-items.result.now in
+    let i = c.loop-line.line-index in
+    omega (arith, draft_length c.args.fields (line_rows lines) _ i c.loop-line.invariant (omega (arith, rows_length lines)), c.as_slice-line-items.ensures.few, length-append c.line_bytes.result [], ap length c.line_bytes.ensures)
 
 pub loop-line-preserved : goal.loop-line-preserved
 loop-line-preserved c =
-    let rows = rows_of c.args.lines.now in
-    let n = c.loop-line.number in
-    let front = drafted c.push_all.new.self in
-    let here = c.in-Some.ensures in
-    (omega (arith, here.0), c.push_all-in-Some.ensures.bytes ∙ ap (λ t. t ++ c.line_bytes.result) c.loop-line.invariant.1 ∙ append_assoc front (written_to rows n) c.line_bytes.result ∙ ap (λ t. front ++ (written_to rows n ++ t)) c.line_bytes.ensures ∙ ap (λ t. front ++ t) (sym (written_more rows n here.0 c.row.result (c.row.ensures ∙ here.1))))
-
-pub overflow_cast-number : goal.overflow_cast-number
-overflow_cast-number c = record { fits = omega (arith, c.loop-line.invariant.0, rows_few c.args.lines.now) }
-
-pub overflow_add-number-2 : goal.overflow_add-number-2
-overflow_add-number-2 c = record { fits = omega (arith, c.loop-line.invariant.0, rows_few c.args.lines.now) }
+    let lines = c.as_slice-line-items.result.now in
+    let i = c.loop-line.line-index in
+    let row = c.row.ensures ∙ sym (row_at lines i c.line-item.result c.loop-line-test.true c.line-item.is) in
+    draft_more c.args.fields (line_rows lines) _ i c.loop-line.invariant (omega (arith, rows_length lines)) c.row.result row _ _ c.line_bytes.ensures c.push_all-in-loop-line.ensures
 
 pub push_all-requires-2 : goal.push_all-requires-2
 push_all-requires-2 c =
-    let rows = rows_of c.args.lines.now in
-    let front : drafted c.push_all.new.self ≡ opening c.args.fields = c.push_all.ensures.bytes ∙ ap (λ x. x ++ c.opening_bytes.result) c.none-draft.ensures ∙ c.opening_bytes.ensures in
-    omega (arith, draft_length c.args.fields rows _ _ c.loop-line.number front c.loop-line.invariant.1 c.loop-line.invariant.0, rows_few c.args.lines.now, c.loop-line.invariant.0, ap length c.closing_bytes.ensures)
+    let lines = c.as_slice-line-items.result.now in
+    let i = c.loop-line.line-index in
+    omega (arith, draft_length c.args.fields (line_rows lines) _ i c.loop-line.invariant (omega (arith, rows_length lines, c.loop-line.auto.line-index-end)), c.as_slice-line-items.ensures.few, length-append c.closing_bytes.result [], ap length c.closing_bytes.ensures)
 
 pub returns : goal.returns
 returns c =
-    let rows = rows_of c.args.lines.now in
-    let front : drafted c.push_all.new.self ≡ opening c.args.fields = c.push_all.ensures.bytes ∙ ap (λ x. x ++ c.opening_bytes.result) c.none-draft.ensures ∙ c.opening_bytes.ensures in
-    draft_whole c.args.fields rows _ _ c.loop-line.number front c.loop-line.invariant.1 (omega (arith, c.loop-line.invariant.0, c.in_default.ensures)) _ _ c.push_all-2.ensures.bytes c.closing_bytes.ensures
+    let lines = c.as_slice-line-items.result.now in
+    let same = c.as_slice-line-items.ensures.rows in
+    let i = c.loop-line.line-index in
+    let all : i ≡ length (line_rows lines) = omega (arith, rows_length lines, c.loop-line-test.false, c.loop-line.auto.line-index-end) in
+    let last = c.closing_bytes.ensures ∙ ap (λ n. closing (1 + n)) (c.len.ensures ∙ sym (ap length same)) in
+    draft_whole c.args.fields (line_rows lines) _ i c.loop-line.invariant all _ _ last c.push_all-2.ensures ∙ ap (plain_sheet c.args.fields) same

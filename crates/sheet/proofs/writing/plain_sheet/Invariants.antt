@@ -1,12 +1,10 @@
-use Rattle.std.proofs.Common.{◌≡◌, ◌-◌, ◌≤◌, ◌++◌, map, length, take}
-use Rattle.grammar.specs.Records.{line, spelled_all}
-use Rattle.lines.specs.Of.{rows_of}
+use Rattle.std.proofs.Common.{◌≡◌, ◌++◌}
+use Rattle.grammar.specs.Records.{opening}
+use Rattle.lines.specs.Rows.{line_rows}
+use Rattle.sheet.proofs.Drafting.{written_to}
 use Rattle.sheet.proofs.writing.plain_sheet.Given as goal
 use Rattle.sheet.specs.Drafts.{drafted}
 
 abbrev pub invariant-loop-line : goal.invariant-loop-line
 invariant-loop-line l =
-    (l.number ≤ length (rows_of l.lines)) × (drafted l.draft ≡ drafted l.initial.draft ++ spelled_all (map line (take l.number (rows_of l.lines))))
-
-abbrev pub decreases-loop-line : goal.decreases-loop-line
-decreases-loop-line l = length (rows_of l.lines) - l.number
+    drafted l.draft ≡ opening l.fn.fields ++ written_to (line_rows l.line-items) l.line-index

@@ -1,6 +1,8 @@
 use Rattle.sheet.proofs.draft.Draft.push_all.Given as goal
 use Rattle.sheet.specs.Drafts.{drafted}
 use Rattle.std.proofs.Common.{◌≡◌, ◌++◌, take}
+use Rattle.std.specs.List.{flat_map}
 
-abbrev pub invariant-loop-byte : goal.invariant-loop-byte
-invariant-loop-byte l = drafted l.self ≡ drafted l.initial.self ++ take l.byte-index l.bytes
+abbrev pub invariant-loop-piece : goal.invariant-loop-piece
+invariant-loop-piece l =
+    drafted l.self ≡ drafted l.initial.self ++ flat_map (λ piece. piece.now) (take l.piece-index l.pieces)
