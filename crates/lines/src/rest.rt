@@ -16,6 +16,7 @@ fn least_common(a: u16, b: u16) -> Option<u16>
 {
     let step = a.max(b);
     let other = a.min(b);
+    // A loop: a `find` over the turns k needs clauses at its closure, that k * step fits and that `other` is not 0.
     let mut m = step;
     while m % other != 0 {
         if m > LONGEST - step {
@@ -55,6 +56,7 @@ pub(crate) fn first_rest_of(lines: LineIter<'_>) -> u16
     requires { hyperperiod (rows_left lines) ≤ 30000 }
     ensures { (result ≡ first_rest (rows_left lines.entry)) × (result ≤ 30000) }
 {
+    // A loop: each step starts at the last answer, and `successors` knows no end of such steps.
     let mut t = 1;
     while let Some(later) = next_rest(lines, t) {
         t = later;

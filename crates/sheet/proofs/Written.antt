@@ -14,14 +14,13 @@ use Rattle.refusal.proofs.Checks.{answered_alike, refusal_behind}
 use Rattle.refusal.specs.Answers.{refusal_of, Answered, left}
 use Rattle.refusal.specs.declared.Refusal.{Refusal}
 use Rattle.roster.specs.Lent.{fronted}
-use Rattle.sheet.proofs.Drafting.{rows_few}
 use Rattle.sheet.specs.Drafts.{room_check}
 use Rattle.sheet.specs.Writing.{plain_sheet, write_checks, BringsBack}
 use Rattle.std.proofs.lemmas.List.{take_at}
 
 -- the lines of a set can be held by a roster
 holdable : (lines : Lines) → Holdable (rows_of lines)
-holdable lines = record { few = rows_few lines; lawful = lines.lawful; brief = lines.brief; watchable = lines.few }
+holdable lines = record { few = lines.within; lawful = lines.lawful; brief = lines.brief; watchable = lines.few }
 
 -- the same reading has the same fields and records
 same_fields : (f g : Fields) (rs ss : List Record) → ◌≡◌ {A = Outcome} (accepted f rs) (accepted g ss) → (f ≡ g) × (rs ≡ ss)

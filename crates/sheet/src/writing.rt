@@ -59,7 +59,7 @@ fn plain_sheet(lines: &Lines, fields: Fields) -> Draft
 {
     let mut draft = Draft::none();
     draft.push_all(&[&opening_bytes(fields)]);
-    for line in lines.as_slice() {
+    for line in lines.iter() {
         draft.push_all(&[&line_bytes(line.row())]);
     }
     draft.push_all(&[&closing_bytes(1 + lines.len() as u16)]);
