@@ -19,16 +19,14 @@ pub(crate) struct Jobs {
 impl Jobs {
     // The jobs that a line releases up to an end.
     pub(crate) fn of(heap: Global, row: Row, end: usize) -> Result<Jobs, AllocError> {
-        let mut all = Vec::new(heap);
-        let mut release = 0usize;
-        for _ in 0..=end {
-            if release > end {
-                break;
-            }
-            let due = release.saturating_add(usize::from(row.deadline));
-            all.push(Job { release, due })?;
-            release = release.saturating_add(usize::from(row.period));
-        }
+        let deadline = usize::from(row.deadline);
+        let all = (0..=end)
+            .step_by(usize::from(row.period.max(1)))
+            .map(|release| Job {
+                release,
+                due: release.saturating_add(deadline),
+            })
+            .collect(heap)?;
         Ok(Jobs { row, all })
     }
 
@@ -38,27 +36,17 @@ impl Jobs {
     }
 
     // How many of the jobs are due by t.
-    pub(crate) fn count(&self, t: usize) -> u16 {
-        let mut many = 0u16;
-        for job in self.all.as_slice() {
-            if job.due > t {
-                break;
-            }
-            many = many.saturating_add(1);
-        }
-        many
+    pub(crate) fn count(&self, t: usize) -> usize {
+        self.all.iter().take_while(|job| job.due <= t).count()
     }
 
     // The cost of the jobs that are due by t, one by one.
     pub(crate) fn work(&self, t: usize) -> u32 {
-        let mut work = 0u32;
-        for job in self.all.as_slice() {
-            if job.due > t {
-                break;
-            }
-            work = work.saturating_add(u32::from(self.row.cost));
-        }
-        work
+        let cost = u32::from(self.row.cost);
+        self.all
+            .iter()
+            .take_while(|job| job.due <= t)
+            .fold(0u32, |work, _| work.saturating_add(cost))
     }
 
     // Whether the line's period divides t.
@@ -69,29 +57,12 @@ impl Jobs {
 
 // What all lines ask for by t, job by job.
 pub(crate) fn demand(lines: &[Jobs], t: usize) -> u32 {
-    let mut sum = 0u32;
-    for jobs in lines {
-        sum = sum.saturating_add(jobs.work(t));
-    }
-    sum
-}
-
-// Whether the period of every line divides t.
-fn all_divide(lines: &[Jobs], t: usize) -> bool {
-    for jobs in lines {
-        if !jobs.divides(t) {
-            return false;
-        }
-    }
-    true
+    lines
+        .iter()
+        .fold(0u32, |sum, jobs| sum.saturating_add(jobs.work(t)))
 }
 
 // The first instant from 1 to an end that every period divides, found by trying each.
 pub(crate) fn hyperperiod(lines: &[Jobs], end: usize) -> Option<usize> {
-    for t in 1..=end {
-        if all_divide(lines, t) {
-            return Some(t);
-        }
-    }
-    None
+    (1..=end).find(|t| lines.iter().all(|jobs| jobs.divides(*t)))
 }

@@ -1,28 +1,11 @@
 // Sets of lines whose figures are known, worked out by hand.
-use crate::taken::{Figures, taken};
-use crate::tally::Tally;
-use lines::{Lines, WatchList};
-use std::fmt;
-
-// What is known of a watch list: its deadlines, or only how many they are.
-enum Watched {
-    These(&'static [u16]),
-    Many(usize),
-}
-
-impl Watched {
-    // Whether a watch list is as it is known.
-    fn are(&self, list: &WatchList) -> bool {
-        match self {
-            Watched::These(deadlines) => list.as_slice() == *deadlines,
-            Watched::Many(many) => list.len() == *many,
-        }
-    }
-}
+use crate::taken::taken;
+use lines::{Lines, Row};
+use trial_tools::{Tally, Watched, rows};
 
 // A set of lines and its figures.
 struct Case {
-    lines: &'static [Figures],
+    lines: &'static [Row],
     hyperperiod: u16,
     rest: u16,
     watched: Watched,
@@ -30,31 +13,31 @@ struct Case {
 
 static CASES: [Case; 7] = [
     Case {
-        lines: &[],
+        lines: rows![],
         hyperperiod: 1,
         rest: 1,
         watched: Watched::These(&[]),
     },
     Case {
-        lines: &[(8, 5, 1), (15, 9, 1)],
+        lines: rows![(8, 5, 1), (15, 9, 1)],
         hyperperiod: 120,
         rest: 13,
         watched: Watched::These(&[5, 9, 13]),
     },
     Case {
-        lines: &[(9, 7, 1), (15, 12, 1)],
+        lines: rows![(9, 7, 1), (15, 12, 1)],
         hyperperiod: 45,
         rest: 27,
         watched: Watched::These(&[7, 12, 16, 25, 27]),
     },
     Case {
-        lines: &[(8, 6, 1), (13, 12, 1)],
+        lines: rows![(8, 6, 1), (13, 12, 1)],
         hyperperiod: 104,
         rest: 38,
         watched: Watched::These(&[6, 12, 14, 22, 25, 30, 38]),
     },
     Case {
-        lines: &[(7, 5, 1), (11, 7, 1), (13, 10, 1)],
+        lines: rows![(7, 5, 1), (11, 7, 1), (13, 10, 1)],
         hyperperiod: 1001,
         rest: 62,
         watched: Watched::These(&[
@@ -62,13 +45,13 @@ static CASES: [Case; 7] = [
         ]),
     },
     Case {
-        lines: &[(128, 128, 1), (129, 129, 1)],
+        lines: rows![(128, 128, 1), (129, 129, 1)],
         hyperperiod: 16512,
         rest: 16512,
         watched: Watched::Many(256),
     },
     Case {
-        lines: &[(625, 1, 1), (48, 1, 1)],
+        lines: rows![(625, 1, 1), (48, 1, 1)],
         hyperperiod: 30000,
         rest: 1,
         watched: Watched::These(&[1]),
@@ -76,7 +59,7 @@ static CASES: [Case; 7] = [
 ];
 
 // Lines, an instant, and the count of each line at it.
-static COUNTED: [Figures; 3] = [(7, 5, 1), (11, 7, 1), (13, 10, 1)];
+static COUNTED: &[Row; 3] = rows![(7, 5, 1), (11, 7, 1), (13, 10, 1)];
 
 const COUNTED_AT: u16 = 40;
 
@@ -84,7 +67,7 @@ static COUNTS: [u16; 3] = [6, 4, 3];
 
 // The groups of known figures.
 #[derive(Drop)]
-pub(crate) struct Known {
+struct Known {
     hyperperiods: Tally,
     rests: Tally,
     lists: Tally,
@@ -94,11 +77,10 @@ pub(crate) struct Known {
 impl Known {
     // The figures of one set. Where it is refused, that is a difference.
     fn compare(&mut self, case: &Case) {
-        let Some(all) = taken(case.lines) else {
+        let Some((lines, list)) = taken(case.lines) else {
             self.rests.note(false);
             return;
         };
-        let (lines, list) = all;
         self.hyperperiods
             .note(lines.hyperperiod() == case.hyperperiod);
         self.rests.note(lines.first_rest() == case.rest);
@@ -109,26 +91,14 @@ impl Known {
     // The counts of the lines, by number.
     fn compare_counts(&mut self, lines: &Lines) {
         for (number, count) in COUNTS.iter().enumerate() {
-            match lines.get(number) {
-                Some(line) => self.counts.note(line.count(COUNTED_AT) == *count),
-                None => self.counts.note(false),
-            }
+            let answer = lines.get(number).map(|line| line.count(COUNTED_AT));
+            self.counts.note(answer == Some(*count));
         }
     }
 }
 
-impl fmt::Display for Known {
-    fn fmt<W: fmt::Write>(&self, f: &mut fmt::Formatter<W>) -> fmt::Result {
-        let hyperperiods = &self.hyperperiods;
-        let rests = &self.rests;
-        let lists = &self.lists;
-        let counts = &self.counts;
-        write!(f, "{hyperperiods}\n{rests}\n{lists}\n{counts}")
-    }
-}
-
 // Compares every known figure.
-pub(crate) fn compared() -> Known {
+pub(crate) fn compared() -> [Tally; 4] {
     let mut known = Known {
         hyperperiods: Tally::of("known hyperperiods"),
         rests: Tally::of("known rest points"),
@@ -138,9 +108,9 @@ pub(crate) fn compared() -> Known {
     for case in &CASES {
         known.compare(case);
     }
-    match taken(&COUNTED) {
-        Some(all) => known.compare_counts(&all.0),
+    match taken(COUNTED) {
+        Some((lines, _)) => known.compare_counts(&lines),
         None => known.counts.note(false),
     }
-    known
+    [known.hyperperiods, known.rests, known.lists, known.counts]
 }

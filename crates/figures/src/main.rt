@@ -4,22 +4,21 @@
 mod expected;
 mod jobs;
 mod known;
-mod random;
 mod refused;
 mod sets;
 mod taken;
-mod tally;
 mod timeline;
 mod whole;
 mod worded;
 
+use trial_tools::print;
+
 // Prints for each group how many figures were compared and how many differ.
 fn compare(rt: &HostRuntime) -> anyhow::Result<()> {
-    rt.println(whole::compared())?;
-    rt.println(known::compared())?;
-    rt.println(refused::compared())?;
-    rt.println(worded::compared(rt.alloc())?)?;
-    rt.println(sets::compared(rt.alloc())?)?;
+    print(rt, &[whole::compared()])?;
+    print(rt, &known::compared())?;
+    print(rt, &[refused::compared(), worded::compared(rt.alloc())?])?;
+    print(rt, &sets::compared(rt.alloc())?.tallies())?;
     Ok(())
 }
 

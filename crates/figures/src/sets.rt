@@ -1,12 +1,9 @@
 // Random sets of small lines: what the library answers, against the counts by the definitions.
-use crate::expected::{Answers, Expected};
+use crate::expected::{Answers, Expected, expected};
 use crate::jobs::{Jobs, demand};
-use crate::random::Random;
-use crate::tally::Tally;
-use lines::{Lines, WatchList};
-use refusal::Refusal;
+use lines::{Lines, Row, WatchList};
 use std::alloc::{AllocError, Global};
-use std::fmt;
+use trial_tools::{Generator, Random, Tally};
 
 // How many sets there are.
 const SETS: u16 = 3000;
@@ -14,11 +11,23 @@ const SETS: u16 = 3000;
 // The most lines of a set.
 const LINES: u16 = 4;
 
+// The longest period of a random line.
+const LONGEST: u16 = 24;
+
+// The highest cost of a random line.
+const DEAREST: u16 = 9;
+
 // Counts are compared at each instant below this one.
 const EACH: u16 = 64;
 
 // At so many random instants besides.
 const SOME: u16 = 4;
+
+// The figures of a lawful line.
+fn row(random: &mut Random) -> Row {
+    let period = random.up_to(LONGEST);
+    random.row(period, DEAREST)
+}
 
 // The groups of comparisons.
 #[derive(Drop)]
@@ -57,16 +66,12 @@ impl Sets {
 
     // The count of each line at an instant, and what they ask for together.
     fn compare_counts(&mut self, lines: &Lines, jobs: &[Jobs], t: u16) {
+        let instant = usize::from(t);
         for (number, of_line) in jobs.iter().enumerate() {
-            match lines.get(number) {
-                Some(line) => self
-                    .counts
-                    .note(line.count(t) == of_line.count(usize::from(t))),
-                None => self.counts.note(false),
-            }
+            let count = lines.get(number).map(|line| usize::from(line.count(t)));
+            self.counts.note(count == Some(of_line.count(instant)));
         }
-        self.demands
-            .note(lines.demand(t) == demand(jobs, usize::from(t)));
+        self.demands.note(lines.demand(t) == demand(jobs, instant));
     }
 
     // Counts at many instants.
@@ -80,21 +85,10 @@ impl Sets {
     }
 
     // A set that is taken.
-    fn compare_taken(&mut self, taken: &(Lines, WatchList), expected: &Expected) {
-        match expected {
-            Expected::Taken(answers) => {
-                self.answers.note(true);
-                self.compare_answers(&taken.0, &taken.1, answers);
-            }
-            Expected::Refused(_) => self.answers.note(false),
-        }
-    }
-
-    // A set that is refused.
-    fn compare_refused(&mut self, refusal: Refusal, expected: &Expected) {
-        match expected {
-            Expected::Taken(_) => self.answers.note(false),
-            Expected::Refused(number) => self.answers.note(refusal.reason.number() == *number),
+    fn compare_taken(&mut self, lines: &Lines, list: &WatchList, expected: &Expected) {
+        self.answers.note(expected.is_ok());
+        if let Ok(answers) = expected {
+            self.compare_answers(lines, list, answers);
         }
     }
 
@@ -103,37 +97,34 @@ impl Sets {
         let mut lines = Lines::none();
         let mut jobs = Vec::new(heap);
         for _ in 0..random.up_to(LINES) {
-            let row = random.row();
+            let row = row(random);
             jobs.push(Jobs::of(heap, row, usize::from(u16::MAX))?)?;
-            let expected = Expected::of(heap, jobs.as_slice())?;
+            let expected = expected(heap, jobs.as_slice())?;
             match lines.add(row) {
-                Ok(more) => {
-                    self.compare_taken(&more, &expected);
-                    self.compare_instants(&more.0, jobs.as_slice(), random);
-                    lines = more.0;
+                Ok((more, list)) => {
+                    self.compare_taken(&more, &list, &expected);
+                    self.compare_instants(&more, jobs.as_slice(), random);
+                    lines = more;
                 }
                 Err(refusal) => {
-                    self.compare_refused(refusal, &expected);
+                    self.answers.note(expected.err() == Some(refusal.reason));
                     break;
                 }
             }
         }
         Ok(())
     }
-}
 
-impl fmt::Display for Sets {
-    fn fmt<W: fmt::Write>(&self, f: &mut fmt::Formatter<W>) -> fmt::Result {
-        let answers = &self.answers;
-        let hyperperiods = &self.hyperperiods;
-        let rests = &self.rests;
-        let lists = &self.lists;
-        let counts = &self.counts;
-        let demands = &self.demands;
-        write!(
-            f,
-            "{answers}\n{hyperperiods}\n{rests}\n{lists}\n{counts}\n{demands}"
-        )
+    // The groups one after another.
+    pub(crate) fn tallies(&self) -> [Tally; 6] {
+        [
+            self.answers,
+            self.hyperperiods,
+            self.rests,
+            self.lists,
+            self.counts,
+            self.demands,
+        ]
     }
 }
 

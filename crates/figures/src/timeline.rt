@@ -2,27 +2,27 @@
 use crate::jobs::{Job, Jobs};
 use std::alloc::{AllocError, Global};
 
-// Which instants lie inside a job, after its release and before its deadline, and which are deadlines.
-#[derive(Drop)]
-pub(crate) struct Timeline {
-    inside: Vec<bool>,
-    due: Vec<bool>,
+// Whether an instant lies inside a job, after its release and before its deadline, and whether it is a deadline.
+#[derive(Clone, Copy)]
+struct Instant {
+    inside: bool,
+    due: bool,
 }
 
-// Marks an instant, if it is on the timeline.
-fn mark(marks: &mut Vec<bool>, t: usize) {
-    if let Some(m) = marks.get_mut(t) {
-        *m = true;
-    }
+#[derive(Drop)]
+pub(crate) struct Timeline {
+    instants: Vec<Instant>,
 }
 
 impl Timeline {
     // The instants from 0 to an end.
     pub(crate) fn of(heap: Global, lines: &[Jobs], end: usize) -> Result<Timeline, AllocError> {
-        let instants = end.saturating_add(1);
+        let unmarked = Instant {
+            inside: false,
+            due: false,
+        };
         let mut timeline = Timeline {
-            inside: vec![in heap; false; instants]?,
-            due: vec![in heap; false; instants]?,
+            instants: vec![in heap; unmarked; end.saturating_add(1)]?,
         };
         for jobs in lines {
             timeline.mark_jobs(jobs.as_slice(), end);
@@ -32,40 +32,39 @@ impl Timeline {
 
     // Marks the jobs of a line that come by an end.
     fn mark_jobs(&mut self, jobs: &[Job], end: usize) {
-        for job in jobs {
-            if job.release > end {
-                break;
-            }
+        for job in jobs.iter().take_while(|job| job.release <= end) {
             self.mark_job(job);
         }
     }
 
-    // Marks what lies inside a job, and its deadline.
+    // Marks what lies inside a job, and its deadline, as far as they are on the timeline.
     fn mark_job(&mut self, job: &Job) {
         for t in job.release.saturating_add(1)..job.due {
-            mark(&mut self.inside, t);
+            if let Some(instant) = self.instants.get_mut(t) {
+                instant.inside = true;
+            }
         }
-        mark(&mut self.due, job.due);
+        if let Some(instant) = self.instants.get_mut(job.due) {
+            instant.due = true;
+        }
     }
 
     // The first instant from 1 on that lies inside no job.
     pub(crate) fn first_rest(&self) -> Option<usize> {
-        for (t, inside) in self.inside.iter().enumerate().skip(1) {
-            if !*inside {
-                return Some(t);
-            }
-        }
-        None
+        self.instants
+            .iter()
+            .enumerate()
+            .skip(1)
+            .find(|(_, instant)| !instant.inside)
+            .map(|(t, _)| t)
     }
 
     // The deadlines up to an end.
     pub(crate) fn deadlines(&self, heap: Global, end: usize) -> Result<Vec<u16>, AllocError> {
-        let mut deadlines = Vec::new(heap);
-        for (t, due) in (0..=u16::MAX).zip(self.due.iter()) {
-            if *due && usize::from(t) <= end {
-                deadlines.push(t)?;
-            }
-        }
-        Ok(deadlines)
+        (0..=u16::MAX)
+            .zip(self.instants.iter())
+            .filter(|(t, instant)| instant.due && usize::from(*t) <= end)
+            .map(|(t, _)| t)
+            .collect(heap)
     }
 }

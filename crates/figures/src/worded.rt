@@ -1,7 +1,7 @@
 // Refusals, and the part of the text of each that scripts may rely on.
-use crate::tally::Tally;
 use refusal::{Layer, Reason, Refusal};
 use std::alloc::{AllocError, Global};
+use trial_tools::Tally;
 
 // A refusal and how its text begins.
 struct Worded {
