@@ -1,0 +1,45 @@
+// A line as the tables write it: its period, its deadline and its cost.
+#[macro_export]
+macro_rules! row {
+    ($period:expr, $deadline:expr, $cost:expr) => {
+        $crate::Row {
+            period: $period,
+            deadline: $deadline,
+            cost: $cost,
+        }
+    };
+}
+
+// Lines.
+#[macro_export]
+macro_rules! rows {
+    ($(($period:expr, $deadline:expr, $cost:expr)),*) => {
+        &[$($crate::row!($period, $deadline, $cost)),*]
+    };
+}
+
+// The roster's own refusal for a reason, at a place: 0 where none is named.
+#[macro_export]
+macro_rules! refused {
+    ($reason:ident) => {
+        $crate::refused!($reason, 0)
+    };
+    ($reason:ident, $place:expr) => {
+        Some($crate::Refusal {
+            reason: $crate::Reason::$reason,
+            layer: $crate::Layer::Roster,
+            place: $place,
+        })
+    };
+}
+
+// Cites, of each its deadline and its weight.
+#[macro_export]
+macro_rules! cites {
+    ($(($deadline:expr, $weight:expr)),*) => {
+        &[$($crate::Cite {
+            deadline: $deadline,
+            weight: $weight,
+        }),*]
+    };
+}
