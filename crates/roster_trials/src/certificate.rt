@@ -4,13 +4,7 @@ use crate::model::Model;
 use crate::slots::Slots;
 use lines::Row;
 use std::alloc::{AllocError, Global};
-
-// A cited deadline and its weight.
-#[derive(Clone, Copy)]
-pub(crate) struct Cite {
-    pub(crate) deadline: u16,
-    pub(crate) weight: u16,
-}
+use trial_tools::Cite;
 
 // The deadline that is to leave, the divisor, and the cites.
 #[derive(Drop)]
@@ -21,8 +15,8 @@ pub(crate) struct Certificate {
 }
 
 // A figure times its weight.
-fn weighed(weight: u16, figure: u16) -> u64 {
-    u64::from(weight).saturating_mul(u64::from(figure))
+fn weighed(weight: u16, figure: u64) -> u64 {
+    u64::from(weight).saturating_mul(figure)
 }
 
 impl Certificate {
@@ -38,39 +32,36 @@ impl Certificate {
 
     // Whether the deadline and the cites are watched, and it does not cite itself.
     fn is_watched(&self, model: &Model) -> bool {
-        for cite in self.cites.as_slice() {
-            if cite.deadline == self.deadline || !model.watches(cite.deadline) {
-                return false;
-            }
-        }
         model.watches(self.deadline)
+            && self.cites.iter().all(|cite| cite.deadline != self.deadline
+                && model.watches(cite.deadline))
+    }
+
+    // A figure of each cited deadline times its weight, together.
+    fn cited<F: Fn(u16) -> u64>(&self, figure: F) -> u64
+        requires { F.IsAlwaysCallable figure }
+    {
+        let mut sum = 0u64;
+        for cite in self.cites.as_slice() {
+            sum = sum.saturating_add(weighed(cite.weight, figure(cite.deadline)));
+        }
+        sum
     }
 
     // Whether the cites cover the count of a line.
     fn covers(&self, row: &Row) -> bool {
-        let mut sum = 0u64;
-        for cite in self.cites.as_slice() {
-            sum = sum.saturating_add(weighed(cite.weight, count(row, cite.deadline)));
-        }
-        weighed(self.divisor, count(row, self.deadline)) <= sum
+        weighed(self.divisor, count(row, self.deadline)) <= self.cited(|t| count(row, t))
     }
 
     // Whether the cites ask for no more slots than are sure by the deadline.
     fn affords(&self, slots: &Slots) -> bool {
-        let mut sum = 0u64;
-        for cite in self.cites.as_slice() {
-            sum = sum.saturating_add(weighed(cite.weight, slots.least(cite.deadline)));
-        }
-        sum <= weighed(self.divisor, slots.least(self.deadline))
+        self.cited(|t| slots.least(t)) <= weighed(self.divisor, slots.least(self.deadline))
     }
 
     // Whether it is right.
     pub(crate) fn is_right(&self, model: &Model, slots: &Slots) -> bool {
-        for row in model.rows() {
-            if !self.covers(row) {
-                return false;
-            }
-        }
-        self.is_watched(model) && self.affords(slots)
+        model.rows().iter().all(|row| self.covers(row))
+            && self.is_watched(model)
+            && self.affords(slots)
     }
 }

@@ -1,8 +1,8 @@
 // Lists of jobs: the witness list by the definition, and random ones that callers may make.
-use crate::random::Random;
 use lines::Row;
 use run::Job;
 use std::alloc::{AllocError, Global};
+use trial_tools::{Generator, Random};
 
 // Random lists have releases below this instant.
 const RELEASES: u16 = 60;
@@ -16,8 +16,7 @@ fn releases(row: &Row, at: u16) -> bool {
 pub(crate) fn witness(heap: Global, rows: &[Row], t: u16) -> Result<Vec<Job>, AllocError> {
     let mut jobs = Vec::new(heap);
     for release in 0..t {
-        let mut line = 0u8;
-        for row in rows {
+        for (line, row) in (0..=u8::MAX).zip(rows.iter()) {
             if releases(row, release) && release.saturating_add(row.deadline) <= t {
                 jobs.push(Job {
                     line,
@@ -25,7 +24,6 @@ pub(crate) fn witness(heap: Global, rows: &[Row], t: u16) -> Result<Vec<Job>, Al
                     cost: row.cost,
                 })?;
             }
-            line = line.saturating_add(1);
         }
     }
     Ok(jobs)
@@ -33,12 +31,9 @@ pub(crate) fn witness(heap: Global, rows: &[Row], t: u16) -> Result<Vec<Job>, Al
 
 // Whether a line may release a job at an instant behind others: each of its jobs came a period before.
 fn may_release(jobs: &[Job], line: u8, period: u16, at: u16) -> bool {
-    for job in jobs {
-        if job.line == line && at < job.release.saturating_add(period) {
-            return false;
-        }
-    }
-    true
+    jobs.iter()
+        .filter(|job| job.line == line)
+        .all(|job| job.release.saturating_add(period) <= at)
 }
 
 // A list that is legal and in order.
@@ -49,8 +44,7 @@ pub(crate) fn legal(
 ) -> Result<Vec<Job>, AllocError> {
     let mut jobs = Vec::new(heap);
     for release in 0..RELEASES {
-        let mut line = 0u8;
-        for row in rows {
+        for (line, row) in (0..=u8::MAX).zip(rows.iter()) {
             if random.below(3) != 0 && may_release(jobs.as_slice(), line, row.period, release) {
                 jobs.push(Job {
                     line,
@@ -58,7 +52,6 @@ pub(crate) fn legal(
                     cost: row.cost.saturating_sub(random.below(2)).max(1),
                 })?;
             }
-            line = line.saturating_add(1);
         }
     }
     Ok(jobs)

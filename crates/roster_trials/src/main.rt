@@ -5,18 +5,15 @@ mod certificate;
 mod counts;
 mod jobs;
 mod model;
-mod plan;
 mod random;
 mod slots;
-mod tally;
 mod trials;
+
+use trial_tools::print;
 
 // Prints for each group how many answers were compared and how many differ.
 fn compare(rt: &HostRuntime) -> anyhow::Result<()> {
-    let groups = trials::compared(rt.alloc())?;
-    for group in &groups.tallies() {
-        println!(rt; "{group}")?;
-    }
+    print(rt, &trials::compared(rt.alloc())?.tallies())?;
     Ok(())
 }
 

@@ -1,79 +1,65 @@
-// A roster by the definitions: its lines, and which instants are watched.
+// A roster by the definitions: its lines, and which deadlines are watched.
 use crate::counts::{is_deadline, rests};
 use crate::slots::LAST;
 use lines::{Lines, Row};
+use std::alloc::{AllocError, Global};
 
-// A place of the table that holds no line.
-const NO_ROW: Row = Row {
-    period: 1,
-    deadline: 1,
-    cost: 1,
-};
-
-#[derive(Clone, Copy)]
+#[derive(Drop)]
 pub(crate) struct Model {
-    rows: [Row; 8],
-    many: usize,
-    watched: [bool; 251],
+    heap: Global,
+    rows: Vec<Row>,
+    watched: Vec<u16>,
 }
 
 impl Model {
     // Neither a line nor a deadline.
-    pub(crate) fn none() -> Model {
+    pub(crate) fn none(heap: Global) -> Model {
         Model {
-            rows: [NO_ROW; 8],
-            many: 0,
-            watched: [false; 251],
+            heap,
+            rows: Vec::new(heap),
+            watched: Vec::new(heap),
         }
     }
 
     // The lines.
     pub(crate) fn rows(&self) -> &[Row] {
-        let (rows, _) = self.rows.split_at(self.many.min(8));
-        rows
+        self.rows.as_slice()
     }
 
-    // Whether an instant is watched.
+    // Whether a deadline is watched.
     pub(crate) fn watches(&self, t: u16) -> bool {
-        self.watched.get(usize::from(t)).copied().unwrap_or(false)
+        self.watched.contains(&t)
     }
 
-    // Watches an instant, or does so no more.
-    pub(crate) fn watch(&mut self, t: u16, is: bool) {
-        if let Some(watched) = self.watched.get_mut(usize::from(t)) {
-            *watched = is;
-        }
+    // Watches a deadline no more.
+    pub(crate) fn leave(&mut self, t: u16) {
+        self.watched.retain(|d| *d != t);
     }
 
     // Watches the deadlines up to the first rest point.
-    fn watch_all(&mut self) {
-        let mut over = false;
-        for t in 1..=LAST {
-            let due = is_deadline(self.rows(), t);
-            self.watch(t, due && !over);
-            over = over || rests(self.rows(), t);
-        }
+    fn watch_all(&mut self) -> Result<(), AllocError> {
+        let rows = self.rows.as_slice();
+        let rest = (1..=LAST).find(|t| rests(rows, *t)).unwrap_or(LAST);
+        let watched = (1..=rest)
+            .filter(|t| is_deadline(rows, *t))
+            .collect(self.heap)?;
+        self.watched = watched;
+        Ok(())
     }
 
     // One line more.
-    pub(crate) fn enrol(&mut self, row: Row) {
-        if let Some(place) = self.rows.get_mut(self.many) {
-            *place = row;
-        }
-        self.many = self.many.saturating_add(1);
-        self.watch_all();
+    pub(crate) fn enrol(&mut self, row: Row) -> Result<(), AllocError> {
+        self.rows.push(row)?;
+        self.watch_all()
     }
 
     // A line leaves, and the later ones are numbered one lower.
-    pub(crate) fn strike(&mut self, number: u8) {
-        let before = self.rows;
-        for place in usize::from(number)..7 {
-            if let Some(row) = self.rows.get_mut(place) {
-                *row = before[place + 1];
-            }
+    pub(crate) fn strike(&mut self, number: u8) -> Result<(), AllocError> {
+        let place = usize::from(number);
+        if place < self.rows.len() {
+            self.rows.remove(place);
         }
-        self.many = self.many.saturating_sub(1);
-        self.watch_all();
+        self.watch_all()
     }
 
     // A line gets a new cost.
@@ -83,32 +69,16 @@ impl Model {
         }
     }
 
-    // Whether a list has the watched instants, rising, and no other.
+    // Whether a list has the watched deadlines, rising, and no other.
     pub(crate) fn is_list(&self, list: &[u16]) -> bool {
-        let mut place = 0usize;
-        for t in 0..=LAST {
-            if self.watches(t) {
-                if list.get(place) != Some(&t) {
-                    return false;
-                }
-                place = place.saturating_add(1);
-            }
-        }
-        list.len() == place
+        self.watched.as_slice() == list
     }
 
     // Whether a set has these lines, by number, and no other.
     pub(crate) fn is_lines(&self, lines: &Lines) -> bool {
-        let mut number = 0usize;
-        for row in self.rows() {
-            match lines.get(number) {
-                Some(line) => if line.row() != *row {
-                    return false;
-                },
-                None => return false,
-            }
-            number = number.saturating_add(1);
-        }
-        lines.len() == number
+        lines.len() == self.rows.len()
+            && self.rows.iter().enumerate().all(|(number, row)| lines
+                .get(number)
+                .is_some_and(|line| line.row() == *row))
     }
 }

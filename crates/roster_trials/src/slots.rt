@@ -1,5 +1,5 @@
 // The slots of a supply, played one by one, and the fewest that any window of them holds.
-use crate::plan::Plan;
+use trial_tools::Plan;
 
 // The largest number of slots that is asked for.
 pub(crate) const LAST: u16 = 250;
@@ -47,15 +47,18 @@ fn played(plan: Plan, start: u8, round: u8) -> Played {
     given
 }
 
+// The fewest that n slots in a row hold in one phase, whichever of the first slots they begin at.
+fn fewest(given: &Played, n: usize) -> u16 {
+    (0..STARTS)
+        .map(|start| at(given, start.saturating_add(n)).saturating_sub(at(given, start)))
+        .min()
+        .unwrap_or(0)
+}
+
 // Lowers what is sure to what the windows of one phase hold.
 fn lower(least: &mut [u16; 251], given: &Played) {
-    let mut n = 0usize;
-    for sure in least.iter_mut() {
-        for start in 0..STARTS {
-            let held = at(given, start.saturating_add(n)).saturating_sub(at(given, start));
-            *sure = held.min(*sure);
-        }
-        n = n.saturating_add(1);
+    for (n, sure) in least.iter_mut().enumerate() {
+        *sure = fewest(given, n).min(*sure);
     }
 }
 
@@ -72,8 +75,8 @@ impl Slots {
     }
 
     // What any n slots in a row are sure to hold.
-    pub(crate) fn least(&self, n: u16) -> u16 {
-        at(&self.least, usize::from(n))
+    pub(crate) fn least(&self, n: u16) -> u64 {
+        u64::from(at(&self.least, usize::from(n)))
     }
 
     // Whether a phase begins with no more.
@@ -81,6 +84,7 @@ impl Slots {
         let length = u32::from(self.plan.length.max(1));
         let start = (phase % length) as u8;
         let round = (phase / length % u32::from(self.plan.turn.max(1))) as u8;
-        at(&played(self.plan, start, round), usize::from(n)) == self.least(n)
+        let given = played(self.plan, start, round);
+        u64::from(at(&given, usize::from(n))) == self.least(n)
     }
 }

@@ -2,15 +2,14 @@
 use crate::counts::overload;
 use crate::jobs;
 use crate::model::Model;
-use crate::plan::{Plan, WHOLE};
-use crate::random::Random;
+use crate::random::{certificate, row};
 use crate::slots::Slots;
-use crate::tally::Tally;
 use lines::{Row, WatchList};
 use roster::Roster;
 use run::{Job, Outcome};
 use std::alloc::{AllocError, Global};
 use supply::Named;
+use trial_tools::{Generator, Plan, Random, Tally};
 
 // How many rosters are tried on each supply.
 const ROSTERS: u16 = 250;
@@ -26,7 +25,7 @@ const CUTS: u16 = 5;
 
 // The supplies: the whole processor, timetables, and shares of both.
 static PLANS: [Plan; 9] = [
-    WHOLE,
+    Plan::WHOLE,
     Plan {
         length: 4,
         word: 3,
@@ -97,6 +96,14 @@ pub(crate) struct Groups {
     lists: Tally,
 }
 
+// What every trial works with: the heap, the groups of comparisons, and the random numbers.
+#[derive(Drop)]
+struct Bench {
+    heap: Global,
+    groups: Groups,
+    random: Random,
+}
+
 // A roster on trial, and what it should be.
 #[derive(Drop)]
 struct Trial {
@@ -108,9 +115,9 @@ struct Trial {
 
 impl Trial {
     // One line more.
-    fn enrol(&mut self, groups: &mut Groups, row: Row) {
-        groups.calls.note(self.roster.enrol(row).is_ok());
-        self.model.enrol(row);
+    fn enrol(&mut self, bench: &mut Bench, row: Row) -> Result<(), AllocError> {
+        bench.groups.calls.note(self.roster.enrol(row).is_ok());
+        self.model.enrol(row)
     }
 
     // The number of a line that is there.
@@ -119,17 +126,20 @@ impl Trial {
     }
 
     // A line less.
-    fn strike(&mut self, groups: &mut Groups, random: &mut Random) {
-        let line = self.line(random);
-        groups.calls.note(self.roster.strike(line).is_ok());
-        self.model.strike(line);
+    fn strike(&mut self, bench: &mut Bench) -> Result<(), AllocError> {
+        let line = self.line(&mut bench.random);
+        bench.groups.calls.note(self.roster.strike(line).is_ok());
+        self.model.strike(line)
     }
 
     // Another cost of a line.
-    fn recost(&mut self, groups: &mut Groups, random: &mut Random) {
-        let line = self.line(random);
-        let cost = random.up_to(DEAREST);
-        groups.calls.note(self.roster.recost(line, cost).is_ok());
+    fn recost(&mut self, bench: &mut Bench) {
+        let line = self.line(&mut bench.random);
+        let cost = bench.random.up_to(DEAREST);
+        bench
+            .groups
+            .calls
+            .note(self.roster.recost(line, cost).is_ok());
         self.model.recost(line, cost);
     }
 
@@ -142,24 +152,19 @@ impl Trial {
     }
 
     // A certificate: it is accepted exactly where it is right.
-    fn cut(
-        &mut self,
-        heap: Global,
-        groups: &mut Groups,
-        random: &mut Random,
-    ) -> Result<(), AllocError> {
-        let list = self.list(random);
-        let certificate = random.certificate(heap, list.as_slice())?;
-        let bytes = certificate.bytes(heap)?;
+    fn cut(&mut self, bench: &mut Bench) -> Result<(), AllocError> {
+        let list = self.list(&mut bench.random);
+        let certificate = certificate(&mut bench.random, bench.heap, list.as_slice())?;
+        let bytes = certificate.bytes(bench.heap)?;
         let made = self
             .roster
             .cut(certificate.deadline, certificate.divisor, bytes.as_slice())
             .is_ok();
         if certificate.is_right(&self.model, &self.slots) {
-            groups.cuts.note(made);
-            self.model.watch(certificate.deadline, false);
+            bench.groups.cuts.note(made);
+            self.model.leave(certificate.deadline);
         } else {
-            groups.refused_cuts.note(!made);
+            bench.groups.refused_cuts.note(!made);
         }
         Ok(())
     }
@@ -181,103 +186,89 @@ impl Trial {
         let Ok(witness) = self.roster.witness(&mut list) else {
             return false;
         };
-        let (written, _) = list.split_at(jobs.len().min(256));
         witness.jobs == jobs.len()
-            && written == jobs
+            && list.starts_with(jobs)
             && self.slots.is_worst(witness.phase, t)
             && self.run(jobs, witness.phase, Some(t))
     }
 
     // What the roster holds, its verdict, and what shows it: the witness where it is overloaded, and the run of a legal list,
     // which is met in any phase, where it fits.
-    fn judge(
-        &self,
-        heap: Global,
-        groups: &mut Groups,
-        random: &mut Random,
-    ) -> Result<(), AllocError> {
+    fn judge(&self, bench: &mut Bench) -> Result<(), AllocError> {
         let same = self.model.is_lines(self.roster.lines())
             && self.model.is_list(self.roster.watched().as_slice());
-        groups.states.note(same);
+        bench.groups.states.note(same);
         let expected = overload(self.model.rows(), &self.slots);
         let agreed = self.roster.verdict() == expected;
         match expected {
             Some(t) => {
-                groups.overloads.note(agreed);
-                let list = jobs::witness(heap, self.model.rows(), t)?;
-                groups.witnesses.note(self.shows(list.as_slice(), t));
+                bench.groups.overloads.note(agreed);
+                let list = jobs::witness(bench.heap, self.model.rows(), t)?;
+                bench.groups.witnesses.note(self.shows(list.as_slice(), t));
             }
             None => {
-                groups.fits.note(agreed);
-                let list = jobs::legal(heap, self.model.rows(), random)?;
-                groups.lists.note(self.run(list.as_slice(), u32::from(random.below(1000)), None));
+                bench.groups.fits.note(agreed);
+                let list = jobs::legal(bench.heap, self.model.rows(), &mut bench.random)?;
+                let phase = u32::from(bench.random.below(1000));
+                bench
+                    .groups
+                    .lists
+                    .note(self.run(list.as_slice(), phase, None));
             }
         }
         Ok(())
     }
 
     // Some certificates, the roster after each, and another cost.
-    fn cut_some(
-        &mut self,
-        heap: Global,
-        groups: &mut Groups,
-        random: &mut Random,
-    ) -> Result<(), AllocError> {
+    fn cut_some(&mut self, bench: &mut Bench) -> Result<(), AllocError> {
         for _ in 0..CUTS {
-            self.cut(heap, groups, random)?;
-            self.judge(heap, groups, random)?;
+            self.cut(bench)?;
+            self.judge(bench)?;
         }
-        self.recost(groups, random);
+        self.recost(bench);
         Ok(())
     }
 
     // Certificates and new costs in turn, and at last a line less.
-    fn work(
-        &mut self,
-        heap: Global,
-        groups: &mut Groups,
-        random: &mut Random,
-    ) -> Result<(), AllocError> {
+    fn work(&mut self, bench: &mut Bench) -> Result<(), AllocError> {
         for _ in 0..COSTS {
-            self.cut_some(heap, groups, random)?;
+            self.cut_some(bench)?;
         }
-        self.strike(groups, random);
-        self.judge(heap, groups, random)
+        self.strike(bench)?;
+        self.judge(bench)
     }
 }
 
-// A roster with random lines, on a supply.
-fn enrolled(groups: &mut Groups, random: &mut Random, supply: Named, slots: Slots) -> Trial {
-    let lines = random.up_to(3).saturating_add(1);
-    let dearest = random.up_to(DEAREST);
-    let mut trial = Trial {
-        roster: Roster::open(supply),
-        model: Model::none(),
-        slots,
-        lines,
-    };
-    for _ in 0..lines {
-        trial.enrol(groups, random.row(dearest));
+impl Bench {
+    // A roster with random lines, on a supply.
+    fn enrolled(&mut self, supply: Named, slots: Slots) -> Result<Trial, AllocError> {
+        let lines = self.random.up_to(3).saturating_add(1);
+        let dearest = self.random.up_to(DEAREST);
+        let mut trial = Trial {
+            roster: Roster::open(supply),
+            model: Model::none(self.heap),
+            slots,
+            lines,
+        };
+        for _ in 0..lines {
+            let row = row(&mut self.random, dearest);
+            trial.enrol(self, row)?;
+        }
+        Ok(trial)
     }
-    trial
-}
 
-// Tries rosters on one supply.
-fn try_plan(
-    heap: Global,
-    groups: &mut Groups,
-    random: &mut Random,
-    plan: Plan,
-) -> Result<(), AllocError> {
-    let Some(supply) = plan.named() else {
-        groups.states.note(false);
-        return Ok(());
-    };
-    let slots = Slots::of(plan);
-    for _ in 0..ROSTERS {
-        enrolled(groups, random, supply, slots).work(heap, groups, random)?;
+    // Tries rosters on one supply.
+    fn try_plan(&mut self, plan: Plan) -> Result<(), AllocError> {
+        let Some(supply) = plan.named() else {
+            self.groups.states.note(false);
+            return Ok(());
+        };
+        let slots = Slots::of(plan);
+        for _ in 0..ROSTERS {
+            self.enrolled(supply, slots)?.work(self)?;
+        }
+        Ok(())
     }
-    Ok(())
 }
 
 impl Groups {
@@ -296,36 +287,29 @@ impl Groups {
     }
 
     // The groups one after another.
-    pub(crate) fn tallies(self) -> [Tally; 8] {
-        let Groups {
-            calls,
-            cuts,
-            refused_cuts,
-            states,
-            fits,
-            overloads,
-            witnesses,
-            lists,
-        } = self;
+    pub(crate) fn tallies(&self) -> [Tally; 8] {
         [
-            calls,
-            cuts,
-            refused_cuts,
-            states,
-            fits,
-            overloads,
-            witnesses,
-            lists,
+            self.calls,
+            self.cuts,
+            self.refused_cuts,
+            self.states,
+            self.fits,
+            self.overloads,
+            self.witnesses,
+            self.lists,
         ]
     }
 }
 
 // Tries rosters on every supply.
 pub(crate) fn compared(heap: Global) -> Result<Groups, AllocError> {
-    let mut groups = Groups::none();
-    let mut random = Random::new(1);
+    let mut bench = Bench {
+        heap,
+        groups: Groups::none(),
+        random: Random::new(1),
+    };
     for plan in &PLANS {
-        try_plan(heap, &mut groups, &mut random, *plan)?;
+        bench.try_plan(*plan)?;
     }
-    Ok(groups)
+    Ok(bench.groups)
 }
