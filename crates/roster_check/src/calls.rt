@@ -1,44 +1,27 @@
 // Calls whose answers are known.
 use crate::snapshot::Snapshot;
-use crate::tally::Tally;
 use lines::Row;
-use refusal::{Layer, Refusal};
+use refusal::Refusal;
 use roster::{Call, Roster};
 use supply::Supply;
+use trial_tools::Tally;
 
-// A line's figures as the tables write them: period, deadline and cost.
-pub(crate) type Figures = (u16, u16, u16);
-
-// How a call is refused: the number of the reason, and the place.
-pub(crate) type Refused = (u8, u32);
-
-// A certificate as the tables write it: the deadline, the divisor, the cites, and how it is refused, if it is.
-// A cite is its deadline and its weight, two bytes each, the high byte first.
-pub(crate) struct Cut(
-    pub(crate) u16,
-    pub(crate) u16,
-    pub(crate) &'static [u8],
-    pub(crate) Option<Refused>,
-);
-
-// The row of some figures.
-pub(crate) fn row(figures: &Figures) -> Row {
-    let (period, deadline, cost) = *figures;
-    Row {
-        period,
-        deadline,
-        cost,
-    }
+// A certificate, and how it is refused, if it is. A cite is its deadline and its weight, two bytes each, the high byte first.
+pub(crate) struct Cut {
+    pub(crate) deadline: u16,
+    pub(crate) divisor: u16,
+    pub(crate) cites: &'static [u8],
+    pub(crate) refused: Option<Refusal>,
 }
 
-// Whether a call answered as it should.
-fn is_answer(answer: Result<(), Refusal>, refused: Option<Refused>) -> bool {
-    match (answer, refused) {
-        (Ok(_), None) => true,
-        (Err(refusal), Some((number, place))) => refusal.reason.number() == number
-            && matches!(refusal.layer, Layer::Roster)
-            && refusal.place == place,
-        _ => false,
+impl Cut {
+    // The call that makes the cut.
+    fn call(&self) -> Call<'static> {
+        Call::Cut {
+            deadline: self.deadline,
+            divisor: self.divisor,
+            cites: self.cites,
+        }
     }
 }
 
@@ -47,45 +30,26 @@ pub(crate) fn compare_call<S: Supply>(
     tally: &mut Tally,
     roster: &mut Roster<S>,
     call: Call,
-    refused: Option<Refused>,
+    refused: Option<Refusal>,
 ) {
     let before = Snapshot::of(roster);
     let answer = roster.make(call);
-    tally.note(is_answer(answer, refused));
+    tally.note(answer.err() == refused);
     if refused.is_some() {
         tally.note(before.is_of(roster));
     }
 }
 
-// The calls that hold no cites.
-pub(crate) fn enrol(figures: &Figures) -> Call<'static> {
-    Call::Enrol(row(figures))
-}
-
-pub(crate) fn strike(line: u8) -> Call<'static> {
-    Call::Strike(line)
-}
-
-pub(crate) fn recost(line: u8, cost: u16) -> Call<'static> {
-    Call::Recost { line, cost }
-}
-
 // Makes a cut.
 pub(crate) fn compare_cut<S: Supply>(tally: &mut Tally, roster: &mut Roster<S>, cut: &Cut) {
-    let Cut(deadline, divisor, cites, refused) = cut;
-    let call = Call::Cut {
-        deadline: *deadline,
-        divisor: *divisor,
-        cites,
-    };
-    compare_call(tally, roster, call, *refused);
+    compare_call(tally, roster, cut.call(), cut.refused);
 }
 
 // A roster with some lines; one that is refused is not among them.
-pub(crate) fn enrolled<S: Supply>(supply: S, lines: &[Figures]) -> Roster<S> {
+pub(crate) fn enrolled<S: Supply>(supply: S, rows: &[Row]) -> Roster<S> {
     let mut roster = Roster::open(supply);
-    for figures in lines {
-        let _ = roster.enrol(row(figures));
+    for row in rows {
+        let _ = roster.enrol(*row);
     }
     roster
 }

@@ -1,29 +1,15 @@
 // Lists of calls, made in one go, on three supplies.
-use crate::calls::row;
 use crate::nothing::Nothing;
 use crate::snapshot::row_at;
-use crate::tally::Tally;
-use lines::Row;
 use roster::{Call, Roster, after, judged};
 use supply::{Share, Supply, Whole};
+use trial_tools::{Tally, row};
 
 // Calls that end with 8/6 and 13/12 at costs 2 and 10; the second, fifth, sixth and last are refused.
 static CALLS: [Call; 8] = [
-    Call::Enrol(Row {
-        period: 8,
-        deadline: 6,
-        cost: 2,
-    }),
-    Call::Enrol(Row {
-        period: 8,
-        deadline: 9,
-        cost: 2,
-    }),
-    Call::Enrol(Row {
-        period: 13,
-        deadline: 12,
-        cost: 9,
-    }),
+    Call::Enrol(row!(8, 6, 2)),
+    Call::Enrol(row!(8, 9, 2)),
+    Call::Enrol(row!(13, 12, 9)),
     Call::Recost { line: 1, cost: 10 },
     Call::Recost { line: 2, cost: 1 },
     Call::Strike(2),
@@ -41,8 +27,8 @@ static CALLS: [Call; 8] = [
 
 // Whether a roster has the two lines and no more, and watches these deadlines.
 fn holds<S>(roster: &Roster<S>, watched: &[u16]) -> bool {
-    row_at(roster.lines(), 0) == Some(row(&(8, 6, 2)))
-        && row_at(roster.lines(), 1) == Some(row(&(13, 12, 10)))
+    row_at(roster.lines(), 0) == Some(row!(8, 6, 2))
+        && row_at(roster.lines(), 1) == Some(row!(13, 12, 10))
         && roster.lines().len() == 2
         && roster.watched().as_slice() == watched
 }

@@ -6,21 +6,12 @@ mod calls;
 mod known;
 mod listed;
 mod nothing;
-mod plan;
 mod snapshot;
-mod tally;
 mod witnesses;
 
-use crate::tally::Tally;
+use trial_tools::print;
 
 // Prints for each group how many answers were compared and how many differ.
-fn print(rt: &HostRuntime, groups: &[Tally]) -> anyhow::Result<()> {
-    for group in groups {
-        println!(rt; "{group}")?;
-    }
-    Ok(())
-}
-
 fn compare(rt: &HostRuntime) -> anyhow::Result<()> {
     print(rt, &known::compared())?;
     let bad = [
@@ -39,7 +30,8 @@ fn compare(rt: &HostRuntime) -> anyhow::Result<()> {
             nothing::compared(),
             listed::compared(),
         ],
-    )
+    )?;
+    Ok(())
 }
 
 fn main(rt: HostRuntime) -> anyhow::Result<()> {

@@ -2,9 +2,9 @@ ghost use Rattle.roster_check.specs.Nothing.{nothing};
 ghost use Rattle.std.proofs.Common.{rules};
 
 use crate::calls::{Cut, compare_cut, enrolled};
-use crate::tally::Tally;
 use run::{Job, Outcome};
 use supply::Supply;
+use trial_tools::{Tally, refused, rows};
 
 // A supply that gives no slot at all.
 #[derive(Clone, Copy)]
@@ -34,9 +34,24 @@ impl Supply for Nothing {
 
 // The cites ask for nothing, so only counts have to be covered; but 14 may not lean on 30, which leans on it.
 static CUTS: [Cut; 3] = [
-    Cut(25, 1, &[0, 12, 0, 1, 0, 14, 0, 1], None),
-    Cut(30, 1, &[0, 14, 0, 2], None),
-    Cut(14, 2, &[0, 30, 0, 1], Some((8, 1))),
+    Cut {
+        deadline: 25,
+        divisor: 1,
+        cites: &[0, 12, 0, 1, 0, 14, 0, 1],
+        refused: None,
+    },
+    Cut {
+        deadline: 30,
+        divisor: 1,
+        cites: &[0, 14, 0, 2],
+        refused: None,
+    },
+    Cut {
+        deadline: 14,
+        divisor: 2,
+        cites: &[0, 30, 0, 1],
+        refused: refused!(NotWatched, 1),
+    },
 ];
 
 // A job that is due by 12, and one that is due by 6.
@@ -57,8 +72,8 @@ static JOBS: [Job; 2] = [
 // a job misses that in slots that are not given.
 pub(crate) fn compared() -> Tally {
     let mut tally = Tally::of("a supply that gives nothing");
-    tally.note(enrolled(Nothing, &[]).verdict() == None);
-    let mut roster = enrolled(Nothing, &[(8, 6, 2), (13, 12, 10)]);
+    tally.note(enrolled(Nothing, &[]).verdict().is_none());
+    let mut roster = enrolled(Nothing, rows![(8, 6, 2), (13, 12, 10)]);
     for cut in &CUTS {
         compare_cut(&mut tally, &mut roster, cut);
     }

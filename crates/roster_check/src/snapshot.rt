@@ -13,20 +13,12 @@ pub(crate) struct Snapshot {
 
 // The figures of a line by its number, if it is there.
 pub(crate) fn row_at(lines: &Lines, number: usize) -> Option<Row> {
-    match lines.get(number) {
-        Some(line) => Some(line.row()),
-        None => None,
-    }
+    lines.get(number).map(|line| line.row())
 }
 
 // Whether two sets have the same lines by the same numbers.
 fn same_lines(some: &Lines, others: &Lines) -> bool {
-    for number in 0..8 {
-        if row_at(some, number) != row_at(others, number) {
-            return false;
-        }
-    }
-    true
+    (0..8).all(|number| row_at(some, number) == row_at(others, number))
 }
 
 impl Snapshot {
