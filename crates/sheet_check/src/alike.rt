@@ -9,30 +9,17 @@ static SLOTS: [u16; 9] = [0, 1, 2, 5, 13, 40, 61, 997, u16::MAX];
 
 // Whether two supplies have as many phases, and are sure to give as much.
 pub(crate) fn same_supply(one: &Named, other: &Named) -> bool {
-    for n in &SLOTS {
-        if one.least(*n) != other.least(*n) {
-            return false;
-        }
-    }
-    one.phases() == other.phases()
+    SLOTS.iter().all(|n| one.least(*n) == other.least(*n)) && one.phases() == other.phases()
 }
 
 // The figures of a line, by its number.
 fn row(lines: &Lines, number: usize) -> Option<Row> {
-    match lines.get(number) {
-        Some(line) => Some(line.row()),
-        None => None,
-    }
+    lines.get(number).map(|line| line.row())
 }
 
 // Whether two sets of lines are the same, line by line.
 pub(crate) fn same_lines(one: &Lines, other: &Lines) -> bool {
-    for number in 0..8 {
-        if row(one, number) != row(other, number) {
-            return false;
-        }
-    }
-    one.len() == other.len()
+    (0..8).all(|number| row(one, number) == row(other, number)) && one.len() == other.len()
 }
 
 // Whether two rosters have the same supply, lines, watch list, first rest point and verdict.

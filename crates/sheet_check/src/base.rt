@@ -2,12 +2,12 @@
 use crate::bench::Bench;
 use crate::draft::Draft;
 use crate::plain::at;
-use crate::tally::Tally;
 use grammar::Fields;
 use lines::Row;
 use refusal::{Layer, Reason, Refusal};
 use sheet::SheetRefusal;
 use std::alloc::{AllocError, Global};
+use trial_tools::{Tally, cites, row};
 
 // A share of 9 in 10 of a timetable of 60 slots, all but four of which are given.
 static FIELDS: Fields = Fields {
@@ -17,23 +17,7 @@ static FIELDS: Fields = Fields {
     of: 10,
 };
 
-static ROWS: [Row; 3] = [
-    Row {
-        period: 7,
-        deadline: 5,
-        cost: 1,
-    },
-    Row {
-        period: 11,
-        deadline: 7,
-        cost: 1,
-    },
-    Row {
-        period: 13,
-        deadline: 10,
-        cost: 1,
-    },
-];
+static ROWS: [Row; 3] = [row!(7, 5, 1), row!(11, 7, 1), row!(13, 10, 1)];
 
 // Where its records begin.
 static STARTS: [usize; 7] = [0, 13, 21, 29, 37, 56, 71];
@@ -45,22 +29,19 @@ fn sheet(heap: Global) -> Result<Draft, AllocError> {
     for row in &ROWS {
         draft.line(*row)?;
     }
-    draft.cut(62, 1, 3, &[(40, 1), (12, 1), (10, 1)])?;
-    draft.cut(19, 1, 2, &[(7, 1), (12, 1)])?;
+    draft.cut(62, 1, 3, cites![(40, 1), (12, 1), (10, 1)])?;
+    draft.cut(19, 1, 2, cites![(7, 1), (12, 1)])?;
     draft.close()?;
     Ok(draft)
 }
 
 // The refusal of a sheet that is cut off at a length: the record that is cut short or missing there.
 fn cut_short(length: usize) -> SheetRefusal {
-    let mut record = 0usize;
-    let mut byte = 0;
-    for start in &STARTS {
-        if *start <= length {
-            record = record.saturating_add(1);
-            byte = *start;
-        }
-    }
+    let begun = STARTS.iter().take_while(|start| **start <= length);
+    let (record, byte) = (1..=STARTS.len())
+        .zip(begun)
+        .last()
+        .map_or((0, 0), |(record, start)| (record, *start));
     at(
         Refusal::by(Layer::Sheet, Reason::SheetCutShort),
         record,
@@ -76,7 +57,7 @@ pub(crate) fn compare_cut_off(bench: &mut Bench) -> Result<(), AllocError> {
         let front = draft.as_slice().get(0..length).unwrap_or(&[]);
         bench.compare_refused(&mut group, front, cut_short(length))?;
     }
-    bench.done.extend_from_slice(&[group])
+    bench.done.extend([group])
 }
 
 // Changes the byte at a place of the sheet to 0, to 255, and to its two neighbours.
@@ -103,5 +84,5 @@ pub(crate) fn compare_changed(bench: &mut Bench) -> Result<(), AllocError> {
         compare_place(bench, &mut group, &mut draft, place)?;
     }
     bench.compare(&mut group, draft.as_slice())?;
-    bench.done.extend_from_slice(&[group])
+    bench.done.extend([group])
 }

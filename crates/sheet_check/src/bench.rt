@@ -2,16 +2,16 @@
 use crate::alike::{same, same_roster};
 use crate::outputs::Outputs;
 use crate::plain::Reading;
-use crate::tally::Tally;
 use crate::{plain, supplies};
 use grammar::Fields;
-use lines::Row;
 use roster::Roster;
 use sheet::SheetRefusal;
 use std::alloc::{AllocError, Global};
+use std::collections::BTreeSet;
 use supply::Named;
+use trial_tools::{Tally, row};
 
-// The numbers of the reasons for which a sheet can be refused.
+// The numbers of the reasons for which a sheet can be refused, as the table of refusals has them.
 static NUMBERS: [u8; 17] = [1, 2, 3, 4, 5, 6, 8, 9, 10, 11, 16, 17, 18, 19, 20, 21, 22];
 
 // What is compared of every sheet, whichever group it is of, and the groups that are done.
@@ -24,13 +24,13 @@ pub(crate) struct Bench {
     refused: Tally,
     reread: Tally,
     outputs: Outputs,
-    met: Vec<bool>,
+    met: BTreeSet<u8>,
 }
 
 impl Bench {
     // Nothing is compared yet.
-    pub(crate) fn new(heap: Global) -> Result<Bench, AllocError> {
-        Ok(Bench {
+    pub(crate) fn new(heap: Global) -> Bench {
+        Bench {
             heap,
             done: Vec::new(heap),
             accepted: Tally::of("accepted sheets of all these"),
@@ -38,8 +38,8 @@ impl Bench {
             refused: Tally::of("refused sheets of all these"),
             reread: Tally::of("sheets read in place of other lines"),
             outputs: Outputs::new(),
-            met: vec![in heap; false; 23]?,
-        })
+            met: BTreeSet::new(heap),
+        }
     }
 
     // Compares what is read of a sheet, reported on it and written of it.
@@ -54,10 +54,7 @@ impl Bench {
                 self.note_accepted(roster, same);
                 self.outputs.compare_written(self.heap, bytes, roster)
             }
-            Err(refused) => {
-                self.note_refused(refused.refusal.reason.number(), same);
-                Ok(())
-            }
+            Err(refused) => { self.note_refused(refused.refusal.reason.number(), same) }
         }
     }
 
@@ -69,10 +66,7 @@ impl Bench {
         refused: SheetRefusal,
     ) -> Result<(), AllocError> {
         self.compare(group, bytes)?;
-        match sheet::from_bytes(bytes) {
-            Ok(_) => group.note(false),
-            Err(answer) => group.note(answer == refused),
-        }
+        group.note(sheet::from_bytes(bytes).err() == Some(refused));
         Ok(())
     }
 
@@ -85,19 +79,17 @@ impl Bench {
     }
 
     // Takes down a sheet that should be refused for the reason with a number.
-    fn note_refused(&mut self, number: u8, same: bool) {
+    fn note_refused(&mut self, number: u8, same: bool) -> Result<(), AllocError> {
         self.refused.note(same);
-        if let Some(met) = self.met.get_mut(usize::from(number)) {
-            *met = true;
-        }
+        self.met.insert(number)?;
+        Ok(())
     }
 
     // Whether each number of a reason was met, or not, as it should be.
     fn numbers(&self) -> Tally {
         let mut tally = Tally::of("numbers of refusals met");
         for number in 1..=22u8 {
-            let met = self.met.get(usize::from(number)).copied().unwrap_or(false);
-            tally.note(met == NUMBERS.contains(&number));
+            tally.note(self.met.contains(&number) == NUMBERS.contains(&number));
         }
         tally
     }
@@ -105,7 +97,7 @@ impl Bench {
     // Ends the list of groups with those of all sheets together.
     pub(crate) fn finish(&mut self) -> Result<(), AllocError> {
         let numbers = self.numbers();
-        self.done.extend_from_slice(&[
+        self.done.extend([
             self.accepted,
             self.certified,
             self.refused,
@@ -127,15 +119,8 @@ fn used() -> Roster<Named> {
         share: 1,
         of: 2,
     };
-    let mut roster = match supplies::named(fields) {
-        Ok(supply) => Roster::open(supply),
-        Err(_) => plain::empty(),
-    };
-    let _ = roster.enrol(Row {
-        period: 8,
-        deadline: 5,
-        cost: 2,
-    });
+    let mut roster = supplies::named(fields).map_or_else(|_| plain::empty(), Roster::open);
+    let _ = roster.enrol(row!(8, 5, 2));
     roster
 }
 

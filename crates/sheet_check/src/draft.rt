@@ -1,9 +1,7 @@
 use grammar::Fields;
 use lines::{Lines, Row};
 use std::alloc::{AllocError, Global};
-
-// A cite as the tables write it: its deadline and its weight.
-pub(crate) type Cite = (u16, u16);
+use trial_tools::Cite;
 
 // A sheet that is spelled record by record, and how many records it has.
 #[derive(Drop)]
@@ -70,7 +68,7 @@ impl Draft {
         self.record(b"CU", &[deadline, divisor])?;
         self.raw(&[number])?;
         for cite in cites {
-            self.numbers(&[cite.0, cite.1])?;
+            self.numbers(&[cite.deadline, cite.weight])?;
         }
         Ok(())
     }
@@ -102,10 +100,8 @@ pub(crate) fn lines_alone(
 ) -> Result<Draft, AllocError> {
     let mut draft = Draft::new(heap);
     draft.open(fields)?;
-    for number in 0..8 {
-        if let Some(line) = lines.get(number) {
-            draft.line(line.row())?;
-        }
+    for line in (0..lines.len()).filter_map(|number| lines.get(number)) {
+        draft.line(line.row())?;
     }
     draft.close()?;
     Ok(draft)

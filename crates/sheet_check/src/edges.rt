@@ -2,10 +2,10 @@
 use crate::bench::Bench;
 use crate::draft::Draft;
 use crate::plain::at;
-use crate::tally::Tally;
 use grammar::Fields;
 use refusal::{Layer, Reason, Refusal};
 use std::alloc::{AllocError, Global};
+use trial_tools::Tally;
 
 static WHOLE: Fields = Fields {
     length: 0,
@@ -37,7 +37,7 @@ pub(crate) fn compare_lengths(bench: &mut Bench) -> Result<(), AllocError> {
         };
         bench.compare_refused(&mut group, draft.as_slice(), refused)?;
     }
-    bench.done.extend_from_slice(&[group])
+    bench.done.extend([group])
 }
 
 // A sheet that ends behind a certificate of a number of cites.
@@ -71,5 +71,5 @@ pub(crate) fn compare_cites(bench: &mut Bench) -> Result<(), AllocError> {
         bench.compare_refused(&mut group, whole, at(turned_down(*number), 2, 13))?;
         bench.compare_refused(&mut group, short, at(cut_short, 2, 13))?;
     }
-    bench.done.extend_from_slice(&[group])
+    bench.done.extend([group])
 }

@@ -1,8 +1,8 @@
 // Sheets with known answers: the edges of each check, and which of two checks comes first.
 use crate::bench::Bench;
 use crate::lent::{BEFORE, is_written};
-use crate::tally::Tally;
 use std::alloc::AllocError;
+use trial_tools::Tally;
 
 // A sheet, the report on it, and the place of its refusal.
 struct Case {
@@ -269,10 +269,9 @@ static CASES: [Case; 48] = [
 fn is_known(case: &Case) -> bool {
     let mut list = [BEFORE; 64];
     let answer = sheet::report(case.sheet, &mut list);
-    let place = match sheet::from_bytes(case.sheet) {
-        Ok(_) => 0,
-        Err(refused) => refused.refusal.place,
-    };
+    let place = sheet::from_bytes(case.sheet)
+        .err()
+        .map_or(0, |refused| refused.refusal.place);
     is_written(answer, &list, case.report.as_bytes()) && place == case.place
 }
 
@@ -283,5 +282,5 @@ pub(crate) fn compare(bench: &mut Bench) -> Result<(), AllocError> {
         bench.compare(&mut group, case.sheet)?;
         group.note(is_known(case));
     }
-    bench.done.extend_from_slice(&[group])
+    bench.done.extend([group])
 }

@@ -12,12 +12,7 @@ pub(crate) fn rooms(text: &[u8]) -> [usize; 3] {
 
 // Whether a list holds a text, and behind it what it held before.
 fn holds(list: &[u8], text: &[u8]) -> bool {
-    for (place, byte) in list.iter().enumerate() {
-        if *byte != text.get(place).copied().unwrap_or(BEFORE) {
-            return false;
-        }
-    }
-    true
+    list.iter().enumerate().all(|(place, byte)| *byte == text.get(place).copied().unwrap_or(BEFORE))
 }
 
 // Whether a call answers what it should, and leaves the list as it should.

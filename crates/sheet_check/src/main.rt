@@ -16,11 +16,11 @@ mod plain;
 mod random;
 mod sheets;
 mod supplies;
-mod tally;
 mod told;
 
 use crate::bench::Bench;
 use std::alloc::AllocError;
+use trial_tools::print;
 
 // Compares every group.
 fn compare(bench: &mut Bench) -> Result<(), AllocError> {
@@ -36,11 +36,9 @@ fn compare(bench: &mut Bench) -> Result<(), AllocError> {
 
 // Prints for each group how many answers were compared and how many differ.
 fn report(rt: &HostRuntime) -> anyhow::Result<()> {
-    let mut bench = Bench::new(rt.alloc())?;
+    let mut bench = Bench::new(rt.alloc());
     compare(&mut bench)?;
-    for tally in bench.done.as_slice() {
-        rt.println(tally)?;
-    }
+    print(rt, bench.done.as_slice())?;
     Ok(())
 }
 

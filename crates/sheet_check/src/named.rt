@@ -3,12 +3,12 @@ use crate::alike::same_supply;
 use crate::bench::Bench;
 use crate::lent::BEFORE;
 use crate::supplies;
-use crate::tally::Tally;
 use grammar::Fields;
 use lines::Lines;
 use refusal::{Layer, Reason, Refusal};
 use sheet::{supply_of, write};
 use std::alloc::AllocError;
+use trial_tools::Tally;
 
 static TIMETABLES: [(u8, u64); 16] = [
     (0, 0),
@@ -54,10 +54,8 @@ fn is_named(fields: Fields) -> bool {
 
 // Whether writing with some fields is refused as it should be, where the list is too short by one for a sheet without lines.
 fn is_checked(fields: Fields) -> bool {
-    let expected = match supplies::named(fields) {
-        Ok(_) => Refusal::by(Layer::Sheet, Reason::ListTooShort).at(17),
-        Err(refusal) => refusal,
-    };
+    let short = Refusal::by(Layer::Sheet, Reason::ListTooShort).at(17);
+    let expected = supplies::named(fields).err().unwrap_or(short);
     let mut list = [BEFORE; 16];
     let answer = write(&Lines::none(), fields, &mut list);
     answer == Err(expected) && list == [BEFORE; 16]
@@ -67,17 +65,17 @@ fn is_checked(fields: Fields) -> bool {
 pub(crate) fn compare(bench: &mut Bench) -> Result<(), AllocError> {
     let mut named = Tally::of("supplies that fields name");
     let mut checked = Tally::of("fields checked before the list's length");
-    for timetable in &TIMETABLES {
-        for part in &SHARES {
+    for (length, word) in &TIMETABLES {
+        for (share, of) in &SHARES {
             let fields = Fields {
-                length: timetable.0,
-                word: timetable.1,
-                share: part.0,
-                of: part.1,
+                length: *length,
+                word: *word,
+                share: *share,
+                of: *of,
             };
             named.note(is_named(fields));
             checked.note(is_checked(fields));
         }
     }
-    bench.done.extend_from_slice(&[named, checked])
+    bench.done.extend([named, checked])
 }

@@ -4,11 +4,11 @@ use crate::draft::lines_alone;
 use crate::lent::{BEFORE, is_written, rooms};
 use crate::plain;
 use crate::plain::Reading;
-use crate::tally::Tally;
 use crate::told::told;
 use roster::Roster;
 use std::alloc::{AllocError, Global};
 use supply::Named;
+use trial_tools::Tally;
 
 // The groups of comparisons.
 #[derive(Clone, Copy)]
@@ -77,10 +77,7 @@ fn is_reported(heap: Global, bytes: &[u8], text: &[u8], room: usize) -> Result<b
 
 // Whether a written sheet brings back the lines of a roster, over its supply.
 fn is_read_back(text: &[u8], roster: &Roster<Named>) -> bool {
-    match sheet::from_bytes(text) {
-        Ok(back) => {
-            same_lines(back.lines(), roster.lines()) && same_supply(back.supply(), roster.supply())
-        }
-        Err(_) => false,
-    }
+    sheet::from_bytes(text).is_ok_and(|back| {
+        same_lines(back.lines(), roster.lines()) && same_supply(back.supply(), roster.supply())
+    })
 }

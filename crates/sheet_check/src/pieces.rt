@@ -54,23 +54,19 @@ fn size(kind: Kind, rest: &[u8]) -> Option<usize> {
 // The record that begins at a byte, or why there is none.
 fn piece_at(bytes: &[u8], start: usize) -> Result<Piece, Reason> {
     let rest = bytes.get(start..).unwrap_or(&[]);
-    let Some(mark) = rest.get(0..2) else {
-        return Err(Reason::SheetCutShort);
-    };
-    let Some(kind) = kind_of(mark) else {
-        return Err(Reason::MarkMisplaced);
-    };
+    let mark = rest.get(0..2).ok_or(Reason::SheetCutShort)?;
+    let kind = kind_of(mark).ok_or(Reason::MarkMisplaced)?;
     if (kind == Kind::Opening) != (start == 0) {
         return Err(Reason::MarkMisplaced);
     }
-    match size(kind, rest) {
-        Some(size) if size <= rest.len() => Ok(Piece {
-            kind,
-            start,
-            end: start.saturating_add(size),
-        }),
-        _ => Err(Reason::SheetCutShort),
-    }
+    let size = size(kind, rest)
+        .filter(|size| *size <= rest.len())
+        .ok_or(Reason::SheetCutShort)?;
+    Ok(Piece {
+        kind,
+        start,
+        end: start.saturating_add(size),
+    })
 }
 
 impl Pieces {

@@ -27,17 +27,15 @@ fn byte(record: &[u8], at: usize) -> u8 {
 
 // The number that two bytes of a record spell.
 fn two(record: &[u8], at: usize) -> u16 {
-    let high = u16::from(byte(record, at));
-    let low = u16::from(byte(record, at.saturating_add(1)));
-    high.wrapping_mul(256).wrapping_add(low)
+    u16::from_be_bytes([byte(record, at), byte(record, at.saturating_add(1))])
 }
 
 // The fields of a first record.
 pub(crate) fn fields(record: &[u8]) -> Fields {
-    let mut word = 0u64;
-    for digit in record.get(3..11).unwrap_or(&[]) {
-        word = word.wrapping_mul(256).wrapping_add(u64::from(*digit));
-    }
+    let digits = record.get(3..11).unwrap_or(&[]);
+    let word = digits.iter().fold(0u64, |word, digit| {
+        word.wrapping_mul(256).wrapping_add(u64::from(*digit))
+    });
     Fields {
         length: byte(record, 2),
         word,
@@ -96,9 +94,11 @@ fn judged(bytes: &[u8], pieces: &Pieces) -> Reading {
     let mut roster = empty();
     for (before, piece) in pieces.all.iter().enumerate() {
         let record = bytes.get(piece.start..piece.end).unwrap_or(&[]);
-        if let Err(refusal) = judge(&mut roster, piece.kind, record, before) {
-            return Err(at(refusal, before.saturating_add(1), piece.start));
-        }
+        judge(&mut roster, piece.kind, record, before).map_err(|refusal| at(
+            refusal,
+            before.saturating_add(1),
+            piece.start,
+        ))?;
     }
     match pieces.fault {
         Some(reason) => Err(at(

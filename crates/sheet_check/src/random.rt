@@ -1,36 +1,38 @@
+// Random figures.
+ghost use Rattle.std.specs.Prelude.{◌+◌, ◌*◌, ◌/◌, ◌%◌, ◌^◌};
+
 use grammar::Fields;
 use lines::Row;
+use trial_tools::{Generator, Steps};
 
-// A linear congruential generator. The same seed gives the same numbers.
-#[derive(Drop)]
+// Numbers that look random. The same seed gives the same numbers.
+#[derive(Clone, Copy)]
 pub(crate) struct Random {
-    state: u64,
+    steps: Steps,
+}
+
+impl Generator for Random {
+    ghost after = { λ random. record { steps = record { state = (random.steps.state * 6364136223846793005 + 1442695040888963407) % 2 ^ 64 } } };
+
+    ghost number = { λ random. (random.steps.state * 6364136223846793005 + 1442695040888963407) % 2 ^ 64 / 2 ^ 32 % 2 ^ 16 };
+
+    // Two bytes above the lower half of the next state, since the lower half repeats soon.
+    fn next(&mut self) -> u64 {
+        (self.steps.step() >> 32) % 0x1_0000
+    }
 }
 
 impl Random {
     // A generator that starts from a seed.
     pub(crate) fn new(seed: u64) -> Random {
-        Random { state: seed }
+        Random {
+            steps: Steps::new(seed),
+        }
     }
 
-    // The next state, with its halves exchanged, since the lower half repeats soon.
-    fn next(&mut self) -> u64 {
-        self.state = self
-            .state
-            .wrapping_mul(6_364_136_223_846_793_005)
-            .wrapping_add(1_442_695_040_888_963_407);
-        self.state.rotate_left(32)
-    }
-
-    // A number below n, and 0 where n is.
-    pub(crate) fn below(&mut self, n: u16) -> u16 {
-        let [_, _, _, _, _, _, high, low] = self.next().to_be_bytes();
-        u16::from_be_bytes([high, low]).checked_rem(n).unwrap_or(0)
-    }
-
-    // A number from 1 to n, and 1 where n is 0.
-    pub(crate) fn up_to(&mut self, n: u16) -> u16 {
-        self.below(n).saturating_add(1)
+    // The next state, with its halves exchanged.
+    fn whole(&mut self) -> u64 {
+        self.steps.step().rotate_left(32)
     }
 
     // Any byte.
@@ -46,7 +48,7 @@ impl Random {
 
     // A timetable of a length, most of whose slots are given.
     fn timetable(&mut self, length: u8) -> u64 {
-        let row = self.next() | self.next() | self.next();
+        let row = self.whole() | self.whole() | self.whole();
         row.wrapping_shr(u32::from(64u8.saturating_sub(length)))
             .max(1)
     }

@@ -2,9 +2,9 @@
 use crate::bench::Bench;
 use crate::draft::Draft;
 use crate::random::Random;
-use crate::tally::Tally;
 use lines::{Lines, WatchList};
 use std::alloc::{AllocError, Global};
+use trial_tools::{Generator, Tally, cites};
 
 // How many sheets there are of each kind.
 const SHEETS: u16 = 2000;
@@ -15,10 +15,10 @@ fn lines(draft: &mut Draft, random: &mut Random) -> Result<WatchList, AllocError
     let mut list = WatchList::none();
     for _ in 0..random.below(6) {
         let row = random.row();
-        if let Ok(more) = lines.add(row) {
+        if let Ok((more, fuller)) = lines.add(row) {
             draft.line(row)?;
-            lines = more.0;
-            list = more.1;
+            lines = more;
+            list = fuller;
         }
     }
     Ok(list)
@@ -26,25 +26,22 @@ fn lines(draft: &mut Draft, random: &mut Random) -> Result<WatchList, AllocError
 
 // Two deadlines of a list that add up to a third.
 fn parts(list: &[u16], sum: u16) -> Option<(u16, u16)> {
-    for one in list {
-        let other = sum.saturating_sub(*one);
-        if list.contains(&other) {
-            return Some((*one, other));
-        }
-    }
-    None
+    list.iter()
+        .map(|one| (*one, sum.saturating_sub(*one)))
+        .find(|(_, other)| list.contains(other))
 }
 
 // Some certificates that cite two deadlines for their sum. The supply always covers them.
-fn certificates(draft: &mut Draft, random: &mut Random, list: WatchList) -> Result<(), AllocError> {
-    let mut list = list;
+fn certificates(
+    draft: &mut Draft,
+    random: &mut Random,
+    mut list: WatchList,
+) -> Result<(), AllocError> {
     for _ in 0..8 {
-        let many = u16::try_from(list.len()).unwrap_or(0);
-        let place = usize::from(random.below(many));
-        let deadline = list.as_slice().get(place).copied().unwrap_or(0);
-        if let Some(cites) = parts(list.as_slice(), deadline) {
+        let deadline = random.of(list.as_slice());
+        if let Some((one, other)) = parts(list.as_slice(), deadline) {
             let weight = random.up_to(1000);
-            draft.cut(deadline, weight, 2, &[(cites.0, weight), (cites.1, weight)])?;
+            draft.cut(deadline, weight, 2, cites![(one, weight), (other, weight)])?;
             list = list.without(deadline);
         }
     }
@@ -82,9 +79,9 @@ fn odd_record(draft: &mut Draft, random: &mut Random) -> Result<(), AllocError> 
             random.up_to(40),
             random.up_to(2),
             1,
-            &[(random.up_to(40), 1)],
+            cites![(random.up_to(40), 1)],
         ),
-        5 => draft.cut(5, 1, random.byte(), &[(5, 1), (5, 1), (5, 1)]),
+        5 => draft.cut(5, 1, random.byte(), cites![(5, 1), (5, 1), (5, 1)]),
         6 => draft.close(),
         _ => draft.line(random.row()),
     }
@@ -144,5 +141,5 @@ pub(crate) fn compare(bench: &mut Bench) -> Result<(), AllocError> {
     }
     bench
         .done
-        .extend_from_slice(&[sheets.good, sheets.damaged, sheets.cut_off, sheets.odd])
+        .extend([sheets.good, sheets.damaged, sheets.cut_off, sheets.odd])
 }

@@ -3,20 +3,16 @@ use grammar::Fields;
 use refusal::{Layer, Reason, Refusal};
 use supply::{Bottom, Named, Share, Timetable, Whole};
 
+// Whether a slot is given: its digit of the word is 1.
+fn gives(word: u64, slot: u8) -> bool {
+    word.wrapping_shr(u32::from(slot)) % 2 == 1
+}
+
 // Whether a timetable gives some slot of its length, and none behind.
 fn lawful(length: u8, word: u64) -> bool {
-    let mut some = false;
-    let mut rest = word;
-    for slot in 0..64u8 {
-        if rest % 2 == 1 {
-            if slot >= length {
-                return false;
-            }
-            some = true;
-        }
-        rest = rest / 2;
-    }
-    some && length <= 64
+    length <= 64
+        && (0..length).any(|slot| gives(word, slot))
+        && !(length..64).any(|slot| gives(word, slot))
 }
 
 // The timetable, or the whole processor where both figures are 0.
@@ -39,8 +35,7 @@ pub(crate) fn named(fields: Fields) -> Result<Named, Refusal> {
     if fields.share == 0 || fields.share > fields.of || fields.of > 64 {
         return Err(Refusal::by(Layer::Supply, Reason::ShareUnlawful));
     }
-    match Share::new(below, fields.share, fields.of) {
-        Ok(share) => Ok(Named::Shared(share)),
-        Err(back) => Err(back.refusal),
-    }
+    Share::new(below, fields.share, fields.of)
+        .map(Named::Shared)
+        .map_err(|back| back.refusal)
 }

@@ -6,6 +6,7 @@ use sheet::SheetRefusal;
 use std::alloc::{AllocError, Global};
 use supply::Named;
 
+// The word for a layer, written again here since the library's words are what is compared.
 fn layer(layer: Layer) -> &'static str {
     match layer {
         Layer::Supply => "supply",
