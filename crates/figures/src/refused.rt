@@ -1,69 +1,63 @@
-// Lines that can't be taken, and the reason for each.
+// Lines that can't be taken, and how each is refused.
 use crate::taken::taken;
 use lines::{Line, Lines, Row};
-use refusal::{Layer, Reason, Refusal};
-use trial_tools::{Tally, row, rows};
+use refusal::Refusal;
+use trial_tools::{Tally, Untaken, refused, row, rows};
 
 // Figures that no line has.
 struct Unlawful {
     row: Row,
-    reason: Reason,
+    refused: Option<Refusal>,
 }
 
 static UNLAWFUL: [Unlawful; 11] = [
     Unlawful {
         row: row!(0, 1, 1),
-        reason: Reason::PeriodOutOfRange,
+        refused: refused!(PeriodOutOfRange),
     },
     Unlawful {
         row: row!(1001, 1, 1),
-        reason: Reason::PeriodOutOfRange,
+        refused: refused!(PeriodOutOfRange),
     },
     Unlawful {
         row: row!(65535, 1, 1),
-        reason: Reason::PeriodOutOfRange,
+        refused: refused!(PeriodOutOfRange),
     },
     Unlawful {
         row: row!(10, 0, 1),
-        reason: Reason::DeadlineOutOfRange,
+        refused: refused!(DeadlineOutOfRange),
     },
     Unlawful {
         row: row!(10, 11, 1),
-        reason: Reason::DeadlineOutOfRange,
+        refused: refused!(DeadlineOutOfRange),
     },
     Unlawful {
         row: row!(1000, 65535, 1),
-        reason: Reason::DeadlineOutOfRange,
+        refused: refused!(DeadlineOutOfRange),
     },
     Unlawful {
         row: row!(10, 5, 0),
-        reason: Reason::CostOutOfRange,
+        refused: refused!(CostOutOfRange),
     },
     Unlawful {
         row: row!(10, 5, 1001),
-        reason: Reason::CostOutOfRange,
+        refused: refused!(CostOutOfRange),
     },
     Unlawful {
         row: row!(10, 5, 65535),
-        reason: Reason::CostOutOfRange,
+        refused: refused!(CostOutOfRange),
     },
     Unlawful {
         row: row!(0, 0, 0),
-        reason: Reason::PeriodOutOfRange,
+        refused: refused!(PeriodOutOfRange),
     },
     Unlawful {
         row: row!(10, 11, 0),
-        reason: Reason::DeadlineOutOfRange,
+        refused: refused!(DeadlineOutOfRange),
     },
 ];
 
-// A line that is refused beside others, which are taken.
-struct Untaken {
-    before: &'static [Row],
-    row: Row,
-    reason: Reason,
-}
-
+// Lines beside others.
 static UNTAKEN: [Untaken; 7] = [
     Untaken {
         before: rows![
@@ -77,7 +71,7 @@ static UNTAKEN: [Untaken; 7] = [
             (1, 1, 1)
         ],
         row: row!(1, 1, 1),
-        reason: Reason::LinesFull,
+        refused: refused!(LinesFull),
     },
     Untaken {
         before: rows![
@@ -91,50 +85,45 @@ static UNTAKEN: [Untaken; 7] = [
             (1, 1, 1)
         ],
         row: row!(0, 0, 0),
-        reason: Reason::LinesFull,
+        refused: refused!(LinesFull),
     },
     Untaken {
         before: rows![(200, 200, 1)],
         row: row!(199, 199, 1),
-        reason: Reason::HyperperiodTooLong,
+        refused: refused!(HyperperiodTooLong),
     },
     Untaken {
         before: rows![(625, 1, 1)],
         row: row!(49, 1, 1),
-        reason: Reason::HyperperiodTooLong,
+        refused: refused!(HyperperiodTooLong),
     },
     Untaken {
         before: rows![(129, 129, 1)],
         row: row!(130, 130, 1),
-        reason: Reason::WatchListTooLong,
+        refused: refused!(WatchListTooLong),
     },
     Untaken {
         before: rows![(200, 200, 1)],
         row: row!(199, 200, 1),
-        reason: Reason::DeadlineOutOfRange,
+        refused: refused!(DeadlineOutOfRange),
     },
     Untaken {
         before: rows![(8, 5, 1), (15, 9, 1)],
         row: row!(1000, 1000, 1001),
-        reason: Reason::CostOutOfRange,
+        refused: refused!(CostOutOfRange),
     },
 ];
-
-// Whether an answer is the roster's own refusal, at place 0, for a reason.
-fn is_refused<T: Drop>(answer: Result<T, Refusal>, reason: Reason) -> bool {
-    answer.err() == Some(Refusal::by(Layer::Roster, reason))
-}
 
 // Compares every refusal: the unlawful figures on their own and as a first line, and the lines beside others.
 pub(crate) fn compared() -> Tally {
     let mut tally = Tally::of("known refusals");
     for case in &UNLAWFUL {
-        tally.note(is_refused(Line::new(case.row), case.reason));
-        tally.note(is_refused(Lines::none().add(case.row), case.reason));
+        tally.note(Line::new(case.row).err() == case.refused);
+        tally.note(Lines::none().add(case.row).err() == case.refused);
     }
     for case in &UNTAKEN {
         match taken(case.before) {
-            Some((lines, _)) => tally.note(is_refused(lines.add(case.row), case.reason)),
+            Some((lines, _)) => tally.note(lines.add(case.row).err() == case.refused),
             None => tally.note(false),
         }
     }
