@@ -1,5 +1,5 @@
 -- The supply that the numbers of a plan name. Assumes nothing.
-use Rattle.std.specs.Prelude.{◌≡◌, ◌≢◌, ℕ, cond, ◌==◌, MatchOption, Option}
+use Rattle.std.specs.Prelude.{◌≡◌, ◌≢◌, cond, ◌==◌, MatchOption, Option}
 use Rattle.supply.specs.Making.{LawfulShare}
 use Rattle.supply.specs.Meaning.{Meaning}
 use Rattle.supply.specs.Named.{bottom, named}
