@@ -1,9 +1,10 @@
-// The row of a line: what it does in each slot.
-use crate::chart::{Chart, Columns};
+// The row of a line between some columns: what it does in each slot.
+use crate::chart::Chart;
 use crate::due::due;
 use crate::slots::NOT_GIVEN;
 use run::{Job, Outcome};
 use std::fmt;
+use std::ops::Range;
 
 // A slot that is not given.
 const CLOSED: char = '-';
@@ -24,18 +25,7 @@ fn entry_of(place: usize) -> usize {
 
 // The last digit of a job's place.
 fn digit(place: usize) -> char {
-    match place % 10 {
-        0 => '0',
-        1 => '1',
-        2 => '2',
-        3 => '3',
-        4 => '4',
-        5 => '5',
-        6 => '6',
-        7 => '7',
-        8 => '8',
-        _ => '9',
-    }
+    char::from(b'0' + (place % 10) as u8)
 }
 
 // The sign of a slot at which no job of the line wants to run.
@@ -54,92 +44,97 @@ fn open(entry: u16, place: usize) -> char {
     }
 }
 
-// The instant from which a job wants no more slots: it has had its cost, or its deadline or the end of the run has come.
-fn settled(chart: &Chart<'_>, place: usize, job: Job) -> usize {
-    let last = usize::from(due(chart.lines, job)).min(chart.entries.len());
-    let mut left = job.cost;
-    for s in usize::from(job.release)..last {
-        if usize::from(chart.entries[s]) == entry_of(place) {
-            left = left.saturating_sub(1);
+// A line of the chart, and the columns that are shown of it.
+#[derive(Drop)]
+pub(crate) struct Row<'a> {
+    pub(crate) chart: &'a Chart<'a>,
+    pub(crate) line: usize,
+    pub(crate) columns: &'a Range<usize>,
+}
+
+impl<'a> Row<'a> {
+    // Whether a job is one of the line.
+    pub(crate) fn owns(&self, job: Job) -> bool {
+        usize::from(job.line) == self.line
+    }
+
+    // The instant from which a job wants no more slots: it has had its cost, or its deadline or the end of the run has come.
+    fn settled(&self, place: usize, job: Job) -> usize {
+        let entries = self.chart.entries;
+        let last = usize::from(due(self.chart.lines, job)).min(entries.len());
+        let mut left = job.cost;
+        for (s, entry) in entries
+            .iter()
+            .enumerate()
+            .take(last)
+            .skip(usize::from(job.release))
+        {
+            if usize::from(*entry) == entry_of(place) {
+                left = left.saturating_sub(1);
+            }
+            if left == 0 {
+                return s.saturating_add(1);
+            }
         }
-        if left == 0 {
-            return s.saturating_add(1);
+        last
+    }
+
+    // The signs of the slots from one instant to another.
+    fn signs<W: fmt::Write, F: Fn(u16) -> char>(
+        &self,
+        f: &mut fmt::Formatter<W>,
+        from: usize,
+        to: usize,
+        sign: F,
+    ) -> fmt::Result
+        requires { F.IsAlwaysCallable sign }
+    {
+        for entry in self.chart.entries.iter().take(to).skip(from) {
+            f.write_char(sign(*entry))?;
         }
+        Ok(())
     }
-    last
-}
 
-// The slots from one instant to another at which no job of the line wants to run.
-fn quiet_slots<W: fmt::Write>(
-    f: &mut fmt::Formatter<W>,
-    chart: &Chart<'_>,
-    from: usize,
-    to: usize,
-) -> fmt::Result {
-    for s in from..to.min(chart.entries.len()) {
-        f.write_char(quiet(chart.entries[s]))?;
-    }
-    Ok(())
-}
-
-// The slots from one instant to another at which the job at a place wants to run.
-fn open_slots<W: fmt::Write>(
-    f: &mut fmt::Formatter<W>,
-    chart: &Chart<'_>,
-    place: usize,
-    from: usize,
-    to: usize,
-) -> fmt::Result {
-    for s in from..to.min(chart.entries.len()) {
-        f.write_char(open(chart.entries[s], place))?;
-    }
-    Ok(())
-}
-
-// The slots of a line: those before each of its jobs, those of the job, and those behind the last.
-fn slots<W: fmt::Write>(
-    f: &mut fmt::Formatter<W>,
-    chart: &Chart<'_>,
-    line: usize,
-    columns: Columns,
-) -> fmt::Result {
-    let mut at = columns.from;
-    for (place, job) in chart.jobs.iter().enumerate() {
-        if usize::from(job.line) == line && usize::from(job.release) < columns.to {
-            let release = usize::from(job.release).max(at);
-            quiet_slots(f, chart, at, release)?;
-            at = settled(chart, place, *job).min(columns.to).max(release);
-            open_slots(f, chart, place, release, at)?;
+    // The slots of the line: those before each of its jobs, those of the job, and those behind the last.
+    fn slots<W: fmt::Write>(&self, f: &mut fmt::Formatter<W>) -> fmt::Result {
+        let to = self.columns.end;
+        let mut at = self.columns.start;
+        for (place, job) in self.chart.jobs.iter().enumerate() {
+            if self.owns(*job) && usize::from(job.release) < to {
+                let release = usize::from(job.release).max(at);
+                self.signs(f, at, release, quiet)?;
+                at = self.settled(place, *job).min(to).max(release);
+                self.signs(f, release, at, |entry| open(entry, place))?;
+            }
         }
+        self.signs(f, at, to, quiet)
     }
-    quiet_slots(f, chart, at, columns.to)
+
+    // Whether a job of the line missed its deadline.
+    fn missed(&self) -> bool {
+        let Outcome::Missed { job, .. } = self.chart.outcome else {
+            return false;
+        };
+        self.chart
+            .jobs
+            .get(usize::from(job))
+            .is_some_and(|job| self.owns(*job))
+    }
 }
 
-// Whether a job of the line missed its deadline.
-fn missed(chart: &Chart<'_>, line: usize) -> bool {
-    let Outcome::Missed { job, .. } = chart.outcome else {
-        return false;
-    };
-    match chart.jobs.get(usize::from(job)) {
-        Some(job) => usize::from(job.line) == line,
-        None => false,
+// The row, and below it the marks.
+impl<'a> fmt::Display for Row<'a> {
+    fn fmt<W: fmt::Write>(&self, f: &mut fmt::Formatter<W>) -> fmt::Result {
+        let line = self.line;
+        write!(f, "line {line}")?;
+        if !self.chart.entries.is_empty() {
+            f.write_str("  ")?;
+        }
+        self.slots(f)?;
+        if self.columns.end > self.chart.entries.len() && self.missed() {
+            f.write_char(MISSED)?;
+        }
+        f.write_str("\n")?;
+        self.marks(f)
     }
-}
-
-// The row of a line between some columns.
-pub(crate) fn row<W: fmt::Write>(
-    f: &mut fmt::Formatter<W>,
-    chart: &Chart<'_>,
-    line: usize,
-    columns: Columns,
-) -> fmt::Result {
-    write!(f, "line {line}")?;
-    if !chart.entries.is_empty() {
-        f.write_str("  ")?;
-    }
-    slots(f, chart, line, columns)?;
-    if columns.to > chart.entries.len() && missed(chart, line) {
-        f.write_char(MISSED)?;
-    }
-    f.write_str("\n")
 }

@@ -1,5 +1,5 @@
-use crate::chart::Columns;
 use std::fmt;
+use std::ops::Range;
 
 // The sign of an instant on the ruler.
 fn tick(at: usize) -> char {
@@ -11,17 +11,20 @@ fn tick(at: usize) -> char {
 }
 
 // The ruler over the rows: every tenth instant by its number, and a tick for each.
-pub(crate) fn ruler<W: fmt::Write>(f: &mut fmt::Formatter<W>, columns: Columns) -> fmt::Result {
+pub(crate) fn ruler<W: fmt::Write>(
+    f: &mut fmt::Formatter<W>,
+    columns: &Range<usize>,
+) -> fmt::Result {
     f.write_str("slot    ")?;
-    for at in (columns.from..columns.to).step_by(10) {
-        if at.saturating_add(10) < columns.to {
+    for at in (columns.start..columns.end).step_by(10) {
+        if at.saturating_add(10) < columns.end {
             write!(f, "{at:<10}")?;
         } else {
             write!(f, "{at}")?;
         }
     }
     f.write_str("\n        ")?;
-    for at in columns.from..columns.to {
+    for at in columns.start..columns.end {
         f.write_char(tick(at))?;
     }
     f.write_str("\n")
