@@ -3,8 +3,9 @@ use run::Job;
 
 // When a job is due: its release where its line is not there.
 pub(crate) fn due(lines: &Lines, job: Job) -> u16 {
-    match lines.get(usize::from(job.line)) {
-        Some(line) => job.release.saturating_add(line.row().deadline),
-        None => job.release,
-    }
+    lines
+        .get(usize::from(job.line))
+        .map_or(job.release, |line| {
+            job.release.saturating_add(line.row().deadline)
+        })
 }

@@ -13,9 +13,11 @@ pub struct Jobs<'a> {
 impl<'a> fmt::Display for Jobs<'a> {
     fn fmt<W: fmt::Write>(&self, f: &mut fmt::Formatter<W>) -> fmt::Result {
         for (place, job) in self.jobs.iter().enumerate() {
-            let line = job.line;
-            let release = job.release;
-            let cost = job.cost;
+            let Job {
+                line,
+                release,
+                cost,
+            } = *job;
             let deadline = due(self.lines, *job);
             write!(
                 f,

@@ -21,11 +21,11 @@ impl<'a> RunText<'a> {
         if let Outcome::Missed { at, .. } = self.outcome {
             return usize::from(at);
         }
-        let mut end = 0;
-        for job in self.jobs {
-            end = due(self.lines, *job).max(end);
-        }
-        usize::from(end)
+        self.jobs
+            .iter()
+            .map(|job| due(self.lines, *job))
+            .max()
+            .map_or(0, usize::from)
     }
 
     // The entries up to the end of the run.
