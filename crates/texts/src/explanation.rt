@@ -9,7 +9,7 @@ use crate::explanation::absent::absent;
 use crate::explanation::beyond::beyond;
 use crate::explanation::covered::covered;
 use crate::explanation::watched::watched;
-use lines::{Line, Lines};
+use lines::{Line, Lines, Row};
 use roster::Roster;
 use std::fmt;
 use supply::Supply;
@@ -27,20 +27,29 @@ fn is_due(line: Line, at: u16) -> bool {
     at > 0 && line.count(at) > line.count(at - 1)
 }
 
-// Names each line that has a job due just at an instant, and answers whether there is one.
-fn owners<W: fmt::Write>(
-    f: &mut fmt::Formatter<W>,
-    lines: &Lines,
-    at: u16,
-) -> Result<bool, fmt::Error> {
-    let mut found = false;
+// Whether any line has a job due just at an instant.
+fn is_deadline(lines: &Lines, at: u16) -> bool {
     for number in 0..lines.len() {
         if let Some(line) = lines.get(number)
             && is_due(line, at)
         {
-            found = true;
-            let deadline = line.row().deadline;
-            let period = line.row().period;
+            return true;
+        }
+    }
+    false
+}
+
+// Names each line that has a job due just at an instant.
+fn owners<W: fmt::Write>(f: &mut fmt::Formatter<W>, lines: &Lines, at: u16) -> fmt::Result {
+    for number in 0..lines.len() {
+        if let Some(line) = lines.get(number)
+            && is_due(line, at)
+        {
+            let Row {
+                period,
+                deadline,
+                ..
+            } = line.row();
             let turns = line.count(at).saturating_sub(1);
             write!(
                 f,
@@ -48,14 +57,16 @@ fn owners<W: fmt::Write>(
             )?;
         }
     }
-    Ok(found)
+    Ok(())
 }
 
 impl<'a, S: Supply> fmt::Display for Explanation<'a, S> {
     fn fmt<W: fmt::Write>(&self, f: &mut fmt::Formatter<W>) -> fmt::Result {
-        if !owners(f, self.roster.lines(), self.at)? {
-            return absent(f, self.roster.lines(), self.at);
+        let lines = self.roster.lines();
+        if !is_deadline(lines, self.at) {
+            return absent(f, lines, self.at);
         }
+        owners(f, lines, self.at)?;
         if self.roster.watched().contains(self.at) {
             return watched(f, self.roster, self.at);
         }

@@ -1,4 +1,4 @@
-use lines::{Line, Lines};
+use lines::{Line, Lines, Row};
 use std::fmt;
 
 // The deadlines of a line around an instant.
@@ -8,8 +8,11 @@ fn around<W: fmt::Write>(
     line: Line,
     at: u16,
 ) -> fmt::Result {
-    let deadline = line.row().deadline;
-    let period = line.row().period;
+    let Row {
+        period,
+        deadline,
+        ..
+    } = line.row();
     let next = line.deadline_after(at);
     write!(f, "line {number} is due at {deadline} + k x {period}: ")?;
     if line.count(at) == 0 {

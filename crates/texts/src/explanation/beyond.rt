@@ -4,60 +4,84 @@ use roster::Roster;
 use std::fmt;
 use supply::Supply;
 
-// A line's jobs due by an instant, beside those due by the rest point and those due by what is left behind it.
-fn split<W: fmt::Write>(
-    f: &mut fmt::Formatter<W>,
-    number: usize,
-    line: Line,
+// An instant that is split at the first rest point.
+#[derive(Clone, Copy)]
+struct Split {
     at: u16,
     rest: u16,
-) -> fmt::Result {
-    let left = at.saturating_sub(rest);
-    let whole = line.count(at);
-    let before = line.count(rest);
-    let behind = line.count(left);
-    let sum = u32::from(before) + u32::from(behind);
-    write!(
-        f,
-        "line {number}: count({at}) = {whole} <= count({rest}) + count({left}) = {before} + {behind} = {sum}\n"
-    )
+    // What is left of the instant behind the rest point.
+    left: u16,
 }
 
-// What the supply is sure to give by an instant, beside the same by the rest point and by what is left behind it.
-fn given<S: Supply, W: fmt::Write>(
-    f: &mut fmt::Formatter<W>,
-    supply: &S,
-    at: u16,
-    rest: u16,
-) -> fmt::Result {
-    let left = at.saturating_sub(rest);
-    let (whole, _) = supply.least(at);
-    let (before, _) = supply.least(rest);
-    let (behind, _) = supply.least(left);
-    let sum = u32::from(before) + u32::from(behind);
-    write!(
-        f,
-        "supply: least({rest}) + least({left}) = {before} + {behind} = {sum} <= least({at}) = {whole}\n"
-    )
-}
+impl Split {
+    fn new(at: u16, rest: u16) -> Split {
+        Split {
+            at,
+            rest,
+            left: at.saturating_sub(rest),
+        }
+    }
 
-// What follows, and whether what is left behind the rest point lies beyond it, too.
-fn conclusion<W: fmt::Write>(f: &mut fmt::Formatter<W>, at: u16, rest: u16) -> fmt::Result {
-    let left = at.saturating_sub(rest);
-    write!(
-        f,
-        "so demand is within least at {at} if it is at {rest} and at {left}\n"
-    )?;
-    if left > rest {
+    // A figure by the rest point and the same by what is left behind it, and the sum of both.
+    fn sum<W: fmt::Write, F: Fn(u16) -> u16>(
+        self,
+        f: &mut fmt::Formatter<W>,
+        name: &str,
+        figure: F,
+    ) -> fmt::Result
+        requires { F.IsAlwaysCallable figure }
+    {
+        let Split { rest, left, .. } = self;
+        let before = figure(rest);
+        let behind = figure(left);
+        let sum = u32::from(before) + u32::from(behind);
         write!(
             f,
-            "{left} lies beyond {rest}, too, and is split the same way\n"
+            "{name}({rest}) + {name}({left}) = {before} + {behind} = {sum}"
         )
-    } else {
+    }
+
+    // A line's jobs due by the instant, beside those due by both parts of it.
+    fn asked<W: fmt::Write>(
+        self,
+        f: &mut fmt::Formatter<W>,
+        number: usize,
+        line: Line,
+    ) -> fmt::Result {
+        let at = self.at;
+        let whole = line.count(at);
+        write!(f, "line {number}: count({at}) = {whole} <= ")?;
+        self.sum(f, "count", |at| line.count(at))?;
+        f.write_str("\n")
+    }
+
+    // What the supply is sure to give by both parts of the instant, beside the same by the whole of it.
+    fn given<S: Supply, W: fmt::Write>(self, f: &mut fmt::Formatter<W>, supply: &S) -> fmt::Result {
+        let at = self.at;
+        let (whole, _) = supply.least(at);
+        f.write_str("supply: ")?;
+        self.sum(f, "least", |at| supply.least(at).0)?;
+        write!(f, " <= least({at}) = {whole}\n")
+    }
+
+    // What follows, and whether what is left behind the rest point lies beyond it, too.
+    fn conclusion<W: fmt::Write>(self, f: &mut fmt::Formatter<W>) -> fmt::Result {
+        let Split { at, rest, left } = self;
         write!(
             f,
-            "neither lies beyond {rest}, so the watched deadlines decide\n"
-        )
+            "so demand is within least at {at} if it is at {rest} and at {left}\n"
+        )?;
+        if left > rest {
+            write!(
+                f,
+                "{left} lies beyond {rest}, too, and is split the same way\n"
+            )
+        } else {
+            write!(
+                f,
+                "neither lies beyond {rest}, so the watched deadlines decide\n"
+            )
+        }
     }
 }
 
@@ -73,11 +97,12 @@ pub(crate) fn beyond<S: Supply, W: fmt::Write>(
         f,
         "it is not watched: it lies beyond the first rest point {rest}, across which no job lies\n"
     )?;
+    let split = Split::new(at, rest);
     for number in 0..lines.len() {
         if let Some(line) = lines.get(number) {
-            split(f, number, line, at, rest)?;
+            split.asked(f, number, line)?;
         }
     }
-    given(f, roster.supply(), at, rest)?;
-    conclusion(f, at, rest)
+    split.given(f, roster.supply())?;
+    split.conclusion(f)
 }

@@ -1,49 +1,25 @@
 // Deadlines that were cut: the sums of their certificates.
 use crate::certificate::{Certificate, Cite};
-use lines::{Line, Lines, WatchList};
+use lines::{Lines, WatchList};
 use roster::Roster;
 use std::fmt;
 use supply::Supply;
 
-// Writes a term of a sum by its place, a figure with its weight, and answers what it comes to.
-fn term<W: fmt::Write>(
+// Writes a figure at each of the cites, weighed, and the sum.
+fn weighed<W: fmt::Write, F: Fn(u16) -> u16>(
     f: &mut fmt::Formatter<W>,
-    place: usize,
-    weight: u16,
-    figure: u16,
-) -> Result<u64, fmt::Error> {
-    if place > 0 {
-        f.write_str(" + ")?;
-    }
-    write!(f, "{weight} x {figure}")?;
-    Ok(u64::from(weight) * u64::from(figure))
-}
-
-// Writes the weighed counts of a line at the cites, and their sum.
-fn weighed_counts<W: fmt::Write>(
-    f: &mut fmt::Formatter<W>,
-    line: Line,
     cites: &[Cite],
-) -> fmt::Result {
+    figure: F,
+) -> fmt::Result
+    requires { F.IsAlwaysCallable figure }
+{
     let mut sum = 0u64;
     for (place, cite) in cites.iter().enumerate() {
-        let weighed = term(f, place, cite.weight, line.count(cite.deadline))?;
-        sum = sum.saturating_add(weighed);
-    }
-    write!(f, " = {sum}")
-}
-
-// Writes what the supply is sure to give by the cites, weighed, and the sum.
-fn weighed_least<S: Supply, W: fmt::Write>(
-    f: &mut fmt::Formatter<W>,
-    supply: &S,
-    cites: &[Cite],
-) -> fmt::Result {
-    let mut sum = 0u64;
-    for (place, cite) in cites.iter().enumerate() {
-        let (least, _) = supply.least(cite.deadline);
-        let weighed = term(f, place, cite.weight, least)?;
-        sum = sum.saturating_add(weighed);
+        let sign = if place == 0 { "" } else { " + " };
+        let weight = cite.weight;
+        let figure = figure(cite.deadline);
+        write!(f, "{sign}{weight} x {figure}")?;
+        sum = sum.saturating_add(u64::from(weight) * u64::from(figure));
     }
     write!(f, " = {sum}")
 }
@@ -53,8 +29,7 @@ fn head<W: fmt::Write>(f: &mut fmt::Formatter<W>, divisor: u16, cites: &[Cite]) 
     write!(f, "it is not watched: it was cut with divisor {divisor} by")?;
     for (place, cite) in cites.iter().enumerate() {
         let sign = if place == 0 { "" } else { "," };
-        let deadline = cite.deadline;
-        let weight = cite.weight;
+        let Cite { deadline, weight } = *cite;
         write!(f, "{sign} {deadline} of weight {weight}")?;
     }
     f.write_str("\n")
@@ -76,7 +51,7 @@ fn counts<W: fmt::Write>(
                 f,
                 "line {number}: {q} x count({d}) = {q} x {count} = {times} <= "
             )?;
-            weighed_counts(f, line, certificate.cites.as_slice())?;
+            weighed(f, certificate.cites.as_slice(), |at| line.count(at))?;
             f.write_str("\n")?;
         }
     }
@@ -94,7 +69,7 @@ fn least<S: Supply, W: fmt::Write>(
     let (least, _) = supply.least(d);
     let times = u64::from(q) * u64::from(least);
     f.write_str("supply: ")?;
-    weighed_least(f, supply, certificate.cites.as_slice())?;
+    weighed(f, certificate.cites.as_slice(), |at| supply.least(at).0)?;
     write!(f, " <= {q} x least({d}) = {q} x {least} = {times}\n")
 }
 
