@@ -1,6 +1,5 @@
 // Bytes as a word: two hex digits to a byte.
-use crate::trouble::Trouble;
-use crate::usage::Usage;
+use commands::{Trouble, Usage};
 use std::alloc::Global;
 use std::fmt;
 
@@ -20,13 +19,8 @@ impl<'a> fmt::Display for Hex<'a> {
 }
 
 // What a hex digit stands for, in lower or upper case.
-fn value(digit: u8) -> Option<u8> {
-    match digit {
-        b'0'..=b'9' => Some(digit - b'0'),
-        b'a'..=b'f' => Some(digit - b'a' + 10),
-        b'A'..=b'F' => Some(digit - b'A' + 10),
-        _ => None,
-    }
+fn value(digit: u8) -> Option<u32> {
+    char::from(digit).to_digit(16)
 }
 
 // The byte that a pair of digits spells, if it does.
@@ -34,17 +28,13 @@ fn byte(pair: &[u8]) -> Option<u8> {
     let [high, low] = pair else {
         return None;
     };
-    Some(value(*high)? << 4 | value(*low)?)
+    u8::try_from(value(*high)? << 4 | value(*low)?).ok()
 }
 
 // The bytes that a word spells.
 pub(crate) fn bytes(heap: Global, word: &str, usage: Usage) -> Result<Vec<u8>, Trouble> {
-    let mut bytes = Vec::new(heap);
-    for pair in word.as_bytes().chunks(2) {
-        let Some(byte) = byte(pair) else {
-            return Err(Trouble::Usage(usage));
-        };
-        bytes.push(byte)?;
-    }
-    Ok(bytes)
+    word.as_bytes()
+        .chunks(2)
+        .map(|pair| byte(pair).ok_or(Trouble::Usage(usage)))
+        .try_collect(heap)
 }

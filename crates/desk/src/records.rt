@@ -1,75 +1,99 @@
-// What the records of an accepted sheet say: the supply that it names, and the certificates by which deadlines are cut.
-use crate::opening::WHOLE;
+// The records of an accepted sheet, and what they say beside its lines: the supply, and the cuts.
+ghost use Rattle.std.specs.Prelude.{length};
+ghost use Rattle.std.specs.Iterator.{at_most};
+
 use grammar::Fields;
 use std::alloc::{AllocError, Global};
 use texts::{Certificate, Cite};
 
-// The fields of the first record.
-pub(crate) fn fields(sheet: &[u8]) -> Fields {
-    match sheet {
-        [
-            b'S',
-            b'U',
-            length,
-            w7,
-            w6,
-            w5,
-            w4,
-            w3,
-            w2,
-            w1,
-            w0,
-            share,
-            of,
-            ..
-        ] => Fields {
-            length: *length,
-            word: u64::from_be_bytes([*w7, *w6, *w5, *w4, *w3, *w2, *w1, *w0]),
-            share: *share,
-            of: *of,
-        },
-        _ => WHOLE,
-    }
+// One record, as far as the console looks into it.
+#[derive(Drop)]
+pub(crate) enum Record<'a> {
+    Supply(Fields),
+    Line,
+    Cut(CutRecord<'a>),
 }
 
-// The cites in their part of a record.
-fn cites(heap: Global, part: &[u8]) -> Result<Vec<Cite>, AllocError> {
-    let mut cites = Vec::new(heap);
-    for cite in part.chunks_exact(4) {
-        if let [d1, d0, w1, w0] = cite {
-            cites.push(Cite {
-                deadline: u16::from_be_bytes([*d1, *d0]),
-                weight: u16::from_be_bytes([*w1, *w0]),
-            })?;
-        }
-    }
-    Ok(cites)
+// The record of a cut.
+#[derive(Drop)]
+pub(crate) struct CutRecord<'a> {
+    deadline: u16,
+    divisor: u16,
+    // Four bytes to a cite.
+    cites: &'a [u8],
 }
 
-// The certificates of the cuts since the watch list was last set in full, which each line does. A turn takes a record.
-pub(crate) fn certificates(heap: Global, sheet: &[u8]) -> Result<Vec<Certificate>, AllocError> {
-    let mut kept = Vec::new(heap);
-    let mut rest = sheet;
-    for _ in 0..sheet.len() {
-        match rest {
-            [b'S', b'U', _, _, _, _, _, _, _, _, _, _, _, next @ ..] => rest = next,
-            [b'L', b'N', _, _, _, _, _, _, next @ ..] => {
-                kept.clear();
-                rest = next;
+impl<'a> CutRecord<'a> {
+    // The certificate of the cut.
+    pub(crate) fn certificate(&self, heap: Global) -> Result<Certificate, AllocError> {
+        let mut cites = Vec::new(heap);
+        for cite in self.cites.chunks_exact(4) {
+            if let [d1, d0, w1, w0] = cite {
+                cites.push(Cite {
+                    deadline: u16::from_be_bytes([*d1, *d0]),
+                    weight: u16::from_be_bytes([*w1, *w0]),
+                })?;
             }
-            [b'C', b'U', d1, d0, q1, q0, number, next @ ..] => {
-                let Some((part, next)) = next.split_at_checked(4 * usize::from(*number)) else {
-                    break;
-                };
-                kept.push(Certificate {
+        }
+        Ok(Certificate {
+            deadline: self.deadline,
+            divisor: self.divisor,
+            cites,
+        })
+    }
+}
+
+// The records of a sheet up to the last, one after the other.
+#[derive(Drop)]
+pub(crate) struct Records<'a> {
+    pub(crate) rest: &'a [u8],
+}
+
+impl<'a> Iterator for Records<'a> {
+    type Item = Record<'a>;
+
+    ghost remaining = { λ records. at_most (length records.rest.now) };
+
+    fn next(&mut self) -> Option<Record<'a>> {
+        match self.rest {
+            [
+                b'S',
+                b'U',
+                length,
+                w7,
+                w6,
+                w5,
+                w4,
+                w3,
+                w2,
+                w1,
+                w0,
+                share,
+                of,
+                rest @ ..,
+            ] => {
+                self.rest = rest;
+                Some(Record::Supply(Fields {
+                    length: *length,
+                    word: u64::from_be_bytes([*w7, *w6, *w5, *w4, *w3, *w2, *w1, *w0]),
+                    share: *share,
+                    of: *of,
+                }))
+            }
+            [b'L', b'N', _, _, _, _, _, _, rest @ ..] => {
+                self.rest = rest;
+                Some(Record::Line)
+            }
+            [b'C', b'U', d1, d0, q1, q0, number, rest @ ..] => {
+                let (cites, rest) = rest.split_at_checked(4 * usize::from(*number))?;
+                self.rest = rest;
+                Some(Record::Cut(CutRecord {
                     deadline: u16::from_be_bytes([*d1, *d0]),
                     divisor: u16::from_be_bytes([*q1, *q0]),
-                    cites: cites(heap, part)?,
-                })?;
-                rest = next;
+                    cites,
+                }))
             }
-            _ => break,
+            _ => None,
         }
     }
-    Ok(kept)
 }

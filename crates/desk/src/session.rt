@@ -1,20 +1,16 @@
-// One conversation: the roster that is open, and the answer to each line.
+// One conversation: the roster that is open, and the commands.
 mod changes;
 mod cuts;
 mod questions;
 mod runs;
 mod sheets;
-mod supplies;
 mod witnesses;
 
-use crate::opening::WHOLE;
-use crate::session::sheets::refusal_line;
-use crate::shown::shown;
-use crate::trouble::Trouble;
-use crate::usage::Usage;
+use commands::{Obey, Trouble, Usage, WHOLE, ask, named, opened};
 use grammar::Fields;
 use roster::Roster;
-use std::alloc::{AllocError, Global};
+use sheet::supply_of;
+use std::alloc::Global;
 use supply::{Bottom, Named, Whole};
 use texts::Certificate;
 
@@ -48,6 +44,7 @@ help
 // What the console holds between two lines.
 #[derive(Drop)]
 pub(crate) struct Session {
+    heap: Global,
     roster: Roster<Named>,
     // The fields by which a sheet names the supply that is open.
     fields: Fields,
@@ -59,45 +56,49 @@ impl Session {
     // A new conversation, on the whole processor.
     pub(crate) fn new(heap: Global) -> Session {
         Session {
+            heap,
             roster: Roster::open(Named::Plain(Bottom::Whole(Whole))),
             fields: WHOLE,
             cuts: Vec::new(heap),
         }
     }
 
-    // The answer to one line of input, whatever bytes it holds. A blank line and a comment get none.
-    pub(crate) fn answer(&mut self, heap: Global, line: &[u8]) -> Result<String, AllocError> {
-        let line = line.trim_ascii();
-        if line.is_empty() || line.starts_with(b"#") {
-            return Ok(String::new(heap));
-        }
-        match self.obey_line(heap, line) {
-            Ok(answer) => Ok(answer),
-            Err(Trouble::Usage(usage)) => {
-                let shown = shown(heap, line)?;
-                format!(in heap; "unknown: {shown}: {usage}\n")
-            }
-            Err(Trouble::Refused(refusal)) => format!(in heap; "{refusal}\n"),
-            Err(Trouble::Sheet(refusal)) => refusal_line(heap, refusal),
-            Err(Trouble::Memory) => Err(AllocError),
-        }
+    // Opens a roster without lines on the supply that is named.
+    fn open(&mut self, words: &[&str]) -> Result<String, Trouble> {
+        let fields = named(words)?;
+        self.roster = Roster::open(supply_of(fields)?);
+        self.fields = fields;
+        self.cuts.clear();
+        Ok(opened(self.heap, self.roster.supply())?)
     }
+}
 
-    // What the words of a line answer.
-    fn obey_line(&mut self, heap: Global, line: &[u8]) -> Result<String, Trouble> {
-        let Ok(text) = std::str::from_utf8(line) else {
-            return Err(Trouble::Usage(Usage::Text));
-        };
-        let words: Vec<&str> = text.split_ascii_whitespace().collect(heap)?;
-        self.obey(heap, words.as_slice())
-    }
-
-    // What a command answers. Each group of commands hands on what is none of its own.
-    fn obey(&mut self, heap: Global, words: &[&str]) -> Result<String, Trouble> {
+impl Obey for Session {
+    fn obey(&mut self, words: &[&str]) -> Result<String, Trouble> {
         match words {
-            ["help"] => Ok(String::from_str(heap, HELP)?),
-            ["help", ..] => Err(Trouble::Usage(Usage::Alone)),
-            _ => self.obey_sheet(heap, words),
+            ["help"] => Ok(String::from_str(self.heap, HELP)?),
+            ["lines"] => Ok(self.lines()?),
+            ["rest"] => Ok(self.rest()?),
+            ["watched"] => Ok(self.watched()?),
+            ["verdict"] => Ok(self.verdict()?),
+            ["witness"] => self.witness(),
+            ["write"] => self.write(),
+            [
+                "help" | "lines" | "rest" | "watched" | "verdict" | "witness" | "write",
+                ..
+            ] => Err(Trouble::Usage(Usage::Alone)),
+            ["open", words @ ..] => self.open(words),
+            ["enrol", words @ ..] => self.enrol(words),
+            ["strike", words @ ..] => self.strike(words),
+            ["recost", words @ ..] => self.recost(words),
+            ["cut", words @ ..] => self.cut(words),
+            ["counts", words @ ..] => self.counts(words),
+            ["demand", words @ ..] => self.demand(words),
+            ["run", "witness"] => self.run_witness(),
+            ["run", words @ ..] => self.run(words),
+            ["explain", words @ ..] => self.explain(words),
+            ["read", words @ ..] => self.read(words),
+            _ => ask(self.heap, self.roster.supply(), words),
         }
     }
 }

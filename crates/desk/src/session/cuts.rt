@@ -1,8 +1,6 @@
 // Commands about the deadlines that are watched: cut one, and explain one.
 use crate::session::Session;
-use crate::trouble::Trouble;
-use crate::usage::Usage;
-use crate::words::{all, number};
+use commands::{Trouble, Usage, all, number};
 use std::alloc::{AllocError, Global};
 use texts::{Certificate, Cite, Explanation};
 
@@ -18,35 +16,32 @@ fn bytes(heap: Global, cites: &[Cite]) -> Result<Vec<u8>, AllocError> {
 
 impl Session {
     // Takes a deadline out of the watch list by a certificate, which is kept for an explanation.
-    pub(crate) fn cut(&mut self, heap: Global, words: &[&str]) -> Result<String, Trouble> {
+    pub(crate) fn cut(&mut self, words: &[&str]) -> Result<String, Trouble> {
         let [deadline, divisor, cites @ ..] = words else {
             return Err(Trouble::Usage(Usage::Cut));
         };
         let certificate = Certificate {
             deadline: number(deadline, Usage::Cut)?,
             divisor: number(divisor, Usage::Cut)?,
-            cites: all(heap, cites, Usage::Cut)?,
+            cites: all(self.heap, cites, Usage::Cut)?,
         };
         let deadline = certificate.deadline;
-        let cites = bytes(heap, certificate.cites.as_slice())?;
+        let cites = bytes(self.heap, certificate.cites.as_slice())?;
         self.roster
             .cut(deadline, certificate.divisor, cites.as_slice())?;
         self.cuts.push(certificate)?;
-        Ok(format!(in heap; "cut {deadline}\n")?)
+        Ok(format!(in self.heap; "cut {deadline}\n")?)
     }
 
     // The certificate by which a deadline was cut, if it was.
     fn certificate(&self, deadline: u16) -> Option<&Certificate> {
-        for certificate in self.cuts.as_slice() {
-            if certificate.deadline == deadline {
-                return Some(certificate);
-            }
-        }
-        None
+        self.cuts
+            .iter()
+            .find(|certificate| certificate.deadline == deadline)
     }
 
     // Why a deadline is or is not watched.
-    pub(crate) fn explain(&self, heap: Global, words: &[&str]) -> Result<String, Trouble> {
+    pub(crate) fn explain(&self, words: &[&str]) -> Result<String, Trouble> {
         let [at] = words else {
             return Err(Trouble::Usage(Usage::Explain));
         };
@@ -56,6 +51,6 @@ impl Session {
             at,
             cut: self.certificate(at),
         };
-        Ok(format!(in heap; "{explanation}")?)
+        Ok(format!(in self.heap; "{explanation}")?)
     }
 }

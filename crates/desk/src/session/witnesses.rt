@@ -1,9 +1,8 @@
 // Commands about the witness of an overload.
 use crate::session::Session;
-use crate::trouble::Trouble;
+use commands::Trouble;
 use refusal::{Reason, Refusal};
 use run::Job;
-use std::alloc::Global;
 use texts::Jobs;
 
 // A job list that no schedule meets in a phase.
@@ -30,32 +29,31 @@ impl Session {
     }
 
     // The witness, in a list that is long enough.
-    fn witness_list(&self, heap: Global) -> Result<WitnessList, Trouble> {
+    fn witness_list(&self) -> Result<WitnessList, Trouble> {
         let none = Job {
             line: 0,
             release: 0,
             cost: 0,
         };
-        let mut jobs = vec![in heap; none; self.witness_length()?]?;
+        let mut jobs = vec![in self.heap; none; self.witness_length()?]?;
         let phase = self.roster.witness(jobs.as_mut_slice())?.phase;
         Ok(WitnessList { phase, jobs })
     }
 
     // The phase of the witness, and its jobs, one to a line of text.
-    pub(crate) fn witness(&self, heap: Global) -> Result<String, Trouble> {
-        let list = self.witness_list(heap)?;
-        let phase = list.phase;
-        let many = list.jobs.len();
+    pub(crate) fn witness(&self) -> Result<String, Trouble> {
+        let WitnessList { phase, jobs } = self.witness_list()?;
+        let many = jobs.len();
         let jobs = Jobs {
             lines: self.roster.lines(),
-            jobs: list.jobs.as_slice(),
+            jobs: jobs.as_slice(),
         };
-        Ok(format!(in heap; "witness phase {phase} jobs {many}\n{jobs}")?)
+        Ok(format!(in self.heap; "witness phase {phase} jobs {many}\n{jobs}")?)
     }
 
     // Runs the witness in its phase.
-    pub(crate) fn run_witness(&self, heap: Global) -> Result<String, Trouble> {
-        let list = self.witness_list(heap)?;
-        self.run_jobs(heap, list.phase, list.jobs.as_slice())
+    pub(crate) fn run_witness(&self) -> Result<String, Trouble> {
+        let list = self.witness_list()?;
+        self.run_jobs(list.phase, list.jobs.as_slice())
     }
 }

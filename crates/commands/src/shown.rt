@@ -3,12 +3,7 @@ use std::alloc::{AllocError, Global};
 
 // Whether a text has characters that steer a terminal in place of being seen, as a carriage return.
 fn has_controls(text: &str) -> bool {
-    for c in text.chars() {
-        if c.is_control() {
-            return true;
-        }
-    }
-    false
+    text.chars().any(char::is_control)
 }
 
 // A line of input: as it is, or byte by byte in escapes where it is no text or has control characters.

@@ -6,7 +6,7 @@ use grammar::Fields;
 use supply::{Share, Timetable, Whole};
 
 // The fields of the whole processor.
-pub(crate) const WHOLE: Fields = Fields {
+pub const WHOLE: Fields = Fields {
     length: 0,
     word: 0,
     share: 0,
@@ -29,10 +29,8 @@ fn timetable(length: &str, word: &str) -> Result<Fields, Trouble> {
 fn shared(below: Fields, s: &str, f: &str) -> Result<Fields, Trouble> {
     let share = number(s, Usage::Open)?;
     let of = number(f, Usage::Open)?;
-    match Share::new(Whole, share, of) {
-        Ok(_) => Ok(Fields { share, of, ..below }),
-        Err(back) => Err(Trouble::Refused(back.refusal)),
-    }
+    Share::new(Whole, share, of)?;
+    Ok(Fields { share, of, ..below })
 }
 
 // The fields of the whole processor, or of a timetable.
@@ -45,7 +43,7 @@ fn bottom(words: &[&str]) -> Result<Fields, Trouble> {
 }
 
 // The fields of the supply that is named: a bottom, alone or with a share of it.
-pub(crate) fn named(words: &[&str]) -> Result<Fields, Trouble> {
+pub fn named(words: &[&str]) -> Result<Fields, Trouble> {
     match words {
         [below @ .., "share", s, f] => shared(bottom(below)?, s, f),
         _ => bottom(words),

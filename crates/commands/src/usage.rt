@@ -2,7 +2,7 @@
 use std::fmt;
 
 #[derive(Clone, Copy)]
-pub(crate) enum Usage {
+pub enum Usage {
     // The line is no text.
     Text,
     // There is no such command.

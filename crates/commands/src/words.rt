@@ -1,4 +1,6 @@
 // What the words of a command stand for.
+ghost use Rattle.std.specs.Prelude.{◌≡◌, MatchResult, Ok};
+
 use crate::trouble::Trouble;
 use crate::usage::Usage;
 use lines::Row;
@@ -8,18 +10,16 @@ use std::str::FromStr;
 use texts::Cite;
 
 // A number, where the word is one and its type has room for it.
-pub(crate) fn number<N: FromStr>(word: &str, usage: Usage) -> Result<N, Trouble>
+pub fn number<N: FromStr>(word: &str, usage: Usage) -> Result<N, Trouble>
 where
     N::Err: Drop,
+    ensures { MatchResult result (λ n. N.from_str_gives word.now (Ok n)) (λ trouble. trouble ≡ Trouble.Usage usage) }
 {
-    match word.parse::<N>() {
-        Ok(number) => Ok(number),
-        Err(_) => Err(Trouble::Usage(usage)),
-    }
+    word.parse::<N>().map_err(|_| Trouble::Usage(usage))
 }
 
-// What a single word can stand for.
-pub(crate) trait Typed: Sized {
+// What a single word can stand for. It is no `FromStr`: the types stand in crates of their own, and the notation is the console's.
+pub trait Typed: Sized {
     // What a word stands for, if it is written as it should be.
     fn typed(word: &str) -> Option<Self>;
 }
@@ -30,9 +30,9 @@ impl Typed for Row {
         let (period, rest) = word.split_once('/')?;
         let (deadline, cost) = rest.split_once('/')?;
         Some(Row {
-            period: period.parse::<u16>().ok()?,
-            deadline: deadline.parse::<u16>().ok()?,
-            cost: cost.parse::<u16>().ok()?,
+            period: period.parse().ok()?,
+            deadline: deadline.parse().ok()?,
+            cost: cost.parse().ok()?,
         })
     }
 }
@@ -42,8 +42,8 @@ impl Typed for Cite {
     fn typed(word: &str) -> Option<Cite> {
         let (deadline, weight) = word.split_once(':')?;
         Some(Cite {
-            deadline: deadline.parse::<u16>().ok()?,
-            weight: weight.parse::<u16>().ok()?,
+            deadline: deadline.parse().ok()?,
+            weight: weight.parse().ok()?,
         })
     }
 }
@@ -54,25 +54,17 @@ impl Typed for Job {
         let (line, rest) = word.split_once('@')?;
         let (release, cost) = rest.split_once(':')?;
         Some(Job {
-            line: line.parse::<u8>().ok()?,
-            release: release.parse::<u16>().ok()?,
-            cost: cost.parse::<u16>().ok()?,
+            line: line.parse().ok()?,
+            release: release.parse().ok()?,
+            cost: cost.parse().ok()?,
         })
     }
 }
 
 // What each of some words stands for.
-pub(crate) fn all<T: Typed + Drop>(
-    heap: Global,
-    words: &[&str],
-    usage: Usage,
-) -> Result<Vec<T>, Trouble> {
-    let mut all = Vec::new(heap);
-    for word in words {
-        let Some(one) = T::typed(word) else {
-            return Err(Trouble::Usage(usage));
-        };
-        all.push(one)?;
-    }
-    Ok(all)
+pub fn all<T: Typed + Drop>(heap: Global, words: &[&str], usage: Usage) -> Result<Vec<T>, Trouble> {
+    words
+        .iter()
+        .map(|word| T::typed(word).ok_or(Trouble::Usage(usage)))
+        .try_collect(heap)
 }

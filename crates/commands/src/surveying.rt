@@ -2,6 +2,7 @@
 use lines::{Lines, Row, WatchList};
 use refusal::Refusal;
 use std::alloc::{AllocError, Global};
+use std::fmt;
 use supply::Supply;
 use texts::Survey;
 
@@ -12,14 +13,21 @@ struct Untaken {
     refusal: Refusal,
 }
 
+impl fmt::Display for Untaken {
+    fn fmt<W: fmt::Write>(&self, f: &mut fmt::Formatter<W>) -> fmt::Result {
+        let Untaken { number, refusal } = *self;
+        write!(f, "{refusal} (line {number} of the survey)\n")
+    }
+}
+
 // The lines of a survey and their full watch list.
 fn taken(rows: &[Row]) -> Result<(Lines, WatchList), Untaken> {
     let mut all = (Lines::none(), WatchList::none());
     for (number, row) in rows.iter().enumerate() {
-        match all.0.add(*row) {
-            Ok(more) => all = more,
-            Err(refusal) => return Err(Untaken { number, refusal }),
-        }
+        all = all
+            .0
+            .add(*row)
+            .map_err(|refusal| Untaken { number, refusal })?;
     }
     Ok(all)
 }
@@ -31,8 +39,7 @@ pub(crate) fn survey<S: Supply>(
     rows: &[Row],
 ) -> Result<String, AllocError> {
     match taken(rows) {
-        Ok(all) => {
-            let (lines, watched) = all;
+        Ok((lines, watched)) => {
             let survey = Survey {
                 supply,
                 lines: &lines,
@@ -40,10 +47,6 @@ pub(crate) fn survey<S: Supply>(
             };
             format!(in heap; "{survey}")
         }
-        Err(untaken) => {
-            let number = untaken.number;
-            let refusal = untaken.refusal;
-            format!(in heap; "{refusal} (line {number} of the survey)\n")
-        }
+        Err(untaken) => format!(in heap; "{untaken}"),
     }
 }

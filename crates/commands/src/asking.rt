@@ -1,0 +1,47 @@
+// Commands that ask a supply.
+use crate::surveying::survey;
+use crate::trouble::Trouble;
+use crate::usage::Usage;
+use crate::words::{all, number};
+use lines::Row;
+use std::alloc::{AllocError, Global};
+use supply::Supply;
+
+// How many of the first slots are given in a phase.
+fn count<S: Supply>(heap: Global, supply: &S, words: &[&str]) -> Result<String, Trouble> {
+    let [phase, slots] = words else {
+        return Err(Trouble::Usage(Usage::Count));
+    };
+    let phase = number(phase, Usage::Count)?;
+    let slots = number(slots, Usage::Count)?;
+    let given = supply.count(phase, slots);
+    Ok(format!(in heap; "count {given}\n")?)
+}
+
+// How many given slots any so many slots in a row are sure to hold.
+fn least<S: Supply>(heap: Global, supply: &S, words: &[&str]) -> Result<String, Trouble> {
+    let [slots] = words else {
+        return Err(Trouble::Usage(Usage::Least));
+    };
+    let (given, phase) = supply.least(number(slots, Usage::Least)?);
+    Ok(format!(in heap; "least {given} phase {phase}\n")?)
+}
+
+// A command that asks a supply. No other is left.
+pub fn ask<S: Supply>(heap: Global, supply: &S, words: &[&str]) -> Result<String, Trouble> {
+    match words {
+        ["count", words @ ..] => count(heap, supply, words),
+        ["least", words @ ..] => least(heap, supply, words),
+        ["survey", words @ ..] => {
+            let rows: Vec<Row> = all(heap, words, Usage::Survey)?;
+            Ok(survey(heap, supply, rows.as_slice())?)
+        }
+        _ => Err(Trouble::Usage(Usage::Command)),
+    }
+}
+
+// What is answered where a supply was opened.
+pub fn opened<S: Supply>(heap: Global, supply: &S) -> Result<String, AllocError> {
+    let phases = supply.phases();
+    format!(in heap; "opened phases {phases}\n")
+}
