@@ -1,5 +1,5 @@
 // What the words of a command stand for.
-ghost use Rattle.std.specs.Prelude.{◌≡◌, MatchResult, Ok};
+ghost use Rattle.std.specs.Prelude.{◌≡◌, IfOk, MatchResult, Ok, length, vec_len};
 
 use crate::trouble::Trouble;
 use crate::usage::Usage;
@@ -62,7 +62,9 @@ impl Typed for Job {
 }
 
 // What each of some words stands for.
-pub fn all<T: Typed + Drop>(heap: Global, words: &[&str], usage: Usage) -> Result<Vec<T>, Trouble> {
+pub fn all<T: Typed + Drop>(heap: Global, words: &[&str], usage: Usage) -> Result<Vec<T>, Trouble>
+    ensures { IfOk result (λ all. vec_len all ≡ length words.now) }
+{
     words
         .iter()
         .map(|word| T::typed(word).ok_or(Trouble::Usage(usage)))
