@@ -14,6 +14,17 @@ pub(crate) enum Record<'a> {
     Cut(CutRecord<'a>),
 }
 
+// The cite that four bytes spell.
+fn cite(bytes: &[u8]) -> Option<Cite> {
+    let [d1, d0, w1, w0] = bytes else {
+        return None;
+    };
+    Some(Cite {
+        deadline: u16::from_be_bytes([*d1, *d0]),
+        weight: u16::from_be_bytes([*w1, *w0]),
+    })
+}
+
 // The record of a cut.
 #[derive(Drop)]
 pub(crate) struct CutRecord<'a> {
@@ -26,19 +37,10 @@ pub(crate) struct CutRecord<'a> {
 impl<'a> CutRecord<'a> {
     // The certificate of the cut.
     pub(crate) fn certificate(&self, heap: Global) -> Result<Certificate, AllocError> {
-        let mut cites = Vec::new(heap);
-        for cite in self.cites.chunks_exact(4) {
-            if let [d1, d0, w1, w0] = cite {
-                cites.push(Cite {
-                    deadline: u16::from_be_bytes([*d1, *d0]),
-                    weight: u16::from_be_bytes([*w1, *w0]),
-                })?;
-            }
-        }
         Ok(Certificate {
             deadline: self.deadline,
             divisor: self.divisor,
-            cites,
+            cites: self.cites.chunks_exact(4).filter_map(cite).collect(heap)?,
         })
     }
 }
