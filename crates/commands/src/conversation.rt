@@ -15,14 +15,9 @@ pub fn converse<R: Input + Print + AllocGlobal, S: Obey>(
     session: &mut S,
 ) -> anyhow::Result<()> {
     let heap = rt.alloc();
-    let mut input = BufReader::new(heap, rt.reader())?;
-    let mut line = Vec::new(heap);
-    for _ in 0..u64::MAX {
-        line.clear();
-        if input.read_until(b'\n', &mut line)? == 0 {
-            break;
-        }
-        let answer = answer(session, heap, line.as_slice())?;
+    let input = BufReader::new(heap, rt.reader())?;
+    for line in input.split(heap, b'\n') {
+        let answer = answer(session, heap, line?.as_slice())?;
         rt.print(answer)?;
     }
     Ok(())
