@@ -10,11 +10,9 @@ pub struct Counts<'a> {
 
 impl<'a> fmt::Display for Counts<'a> {
     fn fmt<W: fmt::Write>(&self, f: &mut fmt::Formatter<W>) -> fmt::Result {
-        for number in 0..self.lines.len() {
-            if let Some(line) = self.lines.get(number) {
-                let count = line.count(self.at);
-                write!(f, " {count}")?;
-            }
+        for line in self.lines.as_slice() {
+            let count = line.count(self.at);
+            write!(f, " {count}")?;
         }
         Ok(())
     }

@@ -29,22 +29,13 @@ fn is_due(line: Line, at: u16) -> bool {
 
 // Whether any line has a job due just at an instant.
 fn is_deadline(lines: &Lines, at: u16) -> bool {
-    for number in 0..lines.len() {
-        if let Some(line) = lines.get(number)
-            && is_due(line, at)
-        {
-            return true;
-        }
-    }
-    false
+    lines.as_slice().iter().any(|line| is_due(*line, at))
 }
 
 // Names each line that has a job due just at an instant.
 fn owners<W: fmt::Write>(f: &mut fmt::Formatter<W>, lines: &Lines, at: u16) -> fmt::Result {
-    for number in 0..lines.len() {
-        if let Some(line) = lines.get(number)
-            && is_due(line, at)
-        {
+    for (number, line) in lines.as_slice().iter().enumerate() {
+        if is_due(*line, at) {
             let Row {
                 period,
                 deadline,

@@ -32,10 +32,8 @@ pub(crate) fn absent<W: fmt::Write>(
         f,
         "{at} is no deadline of this roster, so it is not watched\n"
     )?;
-    for number in 0..lines.len() {
-        if let Some(line) = lines.get(number) {
-            around(f, number, line, at)?;
-        }
+    for (number, line) in lines.as_slice().iter().enumerate() {
+        around(f, number, *line, at)?;
     }
     f.write_str("demand grows only at deadlines, and least never falls\n")
 }

@@ -43,17 +43,15 @@ fn counts<W: fmt::Write>(
 ) -> fmt::Result {
     let q = certificate.divisor;
     let d = certificate.deadline;
-    for number in 0..lines.len() {
-        if let Some(line) = lines.get(number) {
-            let count = line.count(d);
-            let times = u64::from(q) * u64::from(count);
-            write!(
-                f,
-                "line {number}: {q} x count({d}) = {q} x {count} = {times} <= "
-            )?;
-            weighed(f, certificate.cites.as_slice(), |at| line.count(at))?;
-            f.write_str("\n")?;
-        }
+    for (number, line) in lines.as_slice().iter().enumerate() {
+        let count = line.count(d);
+        let times = u64::from(q) * u64::from(count);
+        write!(
+            f,
+            "line {number}: {q} x count({d}) = {q} x {count} = {times} <= "
+        )?;
+        weighed(f, certificate.cites.as_slice(), |at| line.count(at))?;
+        f.write_str("\n")?;
     }
     Ok(())
 }
