@@ -13,18 +13,16 @@ impl Session {
         let lines = self.roster.lines();
         let many = lines.len();
         let mut text = format!(in self.heap; "lines {many}\n")?;
-        for number in 0..many {
-            if let Some(line) = lines.get(number) {
-                let Row {
-                    period,
-                    deadline,
-                    cost,
-                } = line.row();
-                write!(
-                    text,
-                    "line {number} period {period} deadline {deadline} cost {cost}\n"
-                )?;
-            }
+        for (number, line) in lines.as_slice().iter().enumerate() {
+            let Row {
+                period,
+                deadline,
+                cost,
+            } = line.row();
+            write!(
+                text,
+                "line {number} period {period} deadline {deadline} cost {cost}\n"
+            )?;
         }
         Ok(text)
     }
