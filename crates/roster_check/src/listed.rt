@@ -1,6 +1,5 @@
 // Lists of calls, made in one go, on three supplies.
 use crate::nothing::Nothing;
-use crate::snapshot::row_at;
 use roster::{Call, Roster, after, judged};
 use supply::{Share, Supply, Whole};
 use trial_tools::{Tally, row};
@@ -27,10 +26,8 @@ static CALLS: [Call; 8] = [
 
 // Whether a roster has the two lines and no more, and watches these deadlines.
 fn holds<S>(roster: &Roster<S>, watched: &[u16]) -> bool {
-    row_at(roster.lines(), 0) == Some(row!(8, 6, 2))
-        && row_at(roster.lines(), 1) == Some(row!(13, 12, 10))
-        && roster.lines().len() == 2
-        && roster.watched().as_slice() == watched
+    let rows = roster.lines().iter().map(|line| line.row());
+    rows.eq([row!(8, 6, 2), row!(13, 12, 10)]) && roster.watched().as_slice() == watched
 }
 
 // Makes the calls on a supply.

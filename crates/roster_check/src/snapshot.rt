@@ -1,5 +1,5 @@
 // What a roster holds, kept beside it.
-use lines::{Lines, Row, WatchList};
+use lines::{Lines, WatchList};
 use roster::Roster;
 use supply::Supply;
 
@@ -11,14 +11,10 @@ pub(crate) struct Snapshot {
     verdict: Option<u16>,
 }
 
-// The figures of a line by its number, if it is there.
-pub(crate) fn row_at(lines: &Lines, number: usize) -> Option<Row> {
-    lines.get(number).map(|line| line.row())
-}
-
 // Whether two sets have the same lines by the same numbers.
 fn same_lines(some: &Lines, others: &Lines) -> bool {
-    (0..8).all(|number| row_at(some, number) == row_at(others, number))
+    let rows = others.iter().map(|line| line.row());
+    some.iter().map(|line| line.row()).eq(rows)
 }
 
 impl Snapshot {

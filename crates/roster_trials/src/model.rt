@@ -76,9 +76,7 @@ impl Model {
 
     // Whether a set has these lines, by number, and no other.
     pub(crate) fn is_lines(&self, lines: &Lines) -> bool {
-        lines.len() == self.rows.len()
-            && self.rows.iter().enumerate().all(|(number, row)| lines
-                .get(number)
-                .is_some_and(|line| line.row() == *row))
+        let rows = lines.iter().map(|line| line.row());
+        rows.eq(self.rows.iter().copied())
     }
 }

@@ -1,6 +1,6 @@
 // Whether two answers are the same.
 use crate::plain::Reading;
-use lines::{Lines, Row};
+use lines::Lines;
 use roster::Roster;
 use supply::{Named, Supply};
 
@@ -12,14 +12,10 @@ pub(crate) fn same_supply(one: &Named, other: &Named) -> bool {
     SLOTS.iter().all(|n| one.least(*n) == other.least(*n)) && one.phases() == other.phases()
 }
 
-// The figures of a line, by its number.
-fn row(lines: &Lines, number: usize) -> Option<Row> {
-    lines.get(number).map(|line| line.row())
-}
-
 // Whether two sets of lines are the same, line by line.
 pub(crate) fn same_lines(one: &Lines, other: &Lines) -> bool {
-    (0..8).all(|number| row(one, number) == row(other, number)) && one.len() == other.len()
+    let rows = other.iter().map(|line| line.row());
+    one.iter().map(|line| line.row()).eq(rows)
 }
 
 // Whether two rosters have the same supply, lines, watch list, first rest point and verdict.

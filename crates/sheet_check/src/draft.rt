@@ -100,7 +100,7 @@ pub(crate) fn lines_alone(
 ) -> Result<Draft, AllocError> {
     let mut draft = Draft::new(heap);
     draft.open(fields)?;
-    for line in (0..lines.len()).filter_map(|number| lines.get(number)) {
+    for line in lines.iter() {
         draft.line(line.row())?;
     }
     draft.close()?;

@@ -10,7 +10,7 @@ pub struct Counts<'a> {
 
 impl<'a> fmt::Display for Counts<'a> {
     fn fmt<W: fmt::Write>(&self, f: &mut fmt::Formatter<W>) -> fmt::Result {
-        for line in self.lines.as_slice() {
+        for line in self.lines.iter() {
             let count = line.count(self.at);
             write!(f, " {count}")?;
         }

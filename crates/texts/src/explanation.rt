@@ -29,13 +29,13 @@ fn is_due(line: Line, at: u16) -> bool {
 
 // Whether any line has a job due just at an instant.
 fn is_deadline(lines: &Lines, at: u16) -> bool {
-    lines.as_slice().iter().any(|line| is_due(*line, at))
+    lines.iter().any(|line| is_due(line, at))
 }
 
 // Names each line that has a job due just at an instant.
 fn owners<W: fmt::Write>(f: &mut fmt::Formatter<W>, lines: &Lines, at: u16) -> fmt::Result {
-    for (number, line) in lines.as_slice().iter().enumerate() {
-        if is_due(*line, at) {
+    for (number, line) in lines.iter().enumerate() {
+        if is_due(line, at) {
             let Row {
                 period,
                 deadline,

@@ -13,7 +13,7 @@ impl Session {
         let lines = self.roster.lines();
         let many = lines.len();
         let mut text = format!(in self.heap; "lines {many}\n")?;
-        for (number, line) in lines.as_slice().iter().enumerate() {
+        for (number, line) in lines.iter().enumerate() {
             let Row {
                 period,
                 deadline,

@@ -32,8 +32,8 @@ pub(crate) fn absent<W: fmt::Write>(
         f,
         "{at} is no deadline of this roster, so it is not watched\n"
     )?;
-    for (number, line) in lines.as_slice().iter().enumerate() {
-        around(f, number, *line, at)?;
+    for (number, line) in lines.iter().enumerate() {
+        around(f, number, line, at)?;
     }
     f.write_str("demand grows only at deadlines, and least never falls\n")
 }

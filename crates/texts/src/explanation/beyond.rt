@@ -98,8 +98,8 @@ pub(crate) fn beyond<S: Supply, W: fmt::Write>(
         "it is not watched: it lies beyond the first rest point {rest}, across which no job lies\n"
     )?;
     let split = Split::new(at, rest);
-    for (number, line) in lines.as_slice().iter().enumerate() {
-        split.asked(f, number, *line)?;
+    for (number, line) in lines.iter().enumerate() {
+        split.asked(f, number, line)?;
     }
     split.given(f, roster.supply())?;
     split.conclusion(f)

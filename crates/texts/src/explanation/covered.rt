@@ -43,7 +43,7 @@ fn counts<W: fmt::Write>(
 ) -> fmt::Result {
     let q = certificate.divisor;
     let d = certificate.deadline;
-    for (number, line) in lines.as_slice().iter().enumerate() {
+    for (number, line) in lines.iter().enumerate() {
         let count = line.count(d);
         let times = u64::from(q) * u64::from(count);
         write!(

@@ -28,8 +28,8 @@ pub(crate) fn watched<S: Supply, W: fmt::Write>(
         f,
         "it is watched: it is not beyond the first rest point {rest}, and was not cut\n"
     )?;
-    for (number, line) in lines.as_slice().iter().enumerate() {
-        asked(f, number, *line, at)?;
+    for (number, line) in lines.iter().enumerate() {
+        asked(f, number, line, at)?;
     }
     let demand = lines.demand(at);
     let (given, _) = roster.supply().least(at);
