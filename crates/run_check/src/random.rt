@@ -5,26 +5,23 @@ use lines::Row;
 use run::{Job, Outcome};
 use std::alloc::{AllocError, Global};
 use supply::{Share, Supply, Timetable, Whole};
+use trial_tools::{Generator, Steps};
 
 // Numbers that look random, the same on each run.
 #[derive(Clone, Copy)]
 struct Dice {
-    state: u64,
+    steps: Steps,
 }
 
-impl Dice {
-    // A number below a bound.
-    fn below(&mut self, bound: u16) -> u16 {
-        self.state = self
-            .state
-            .wrapping_mul(6_364_136_223_846_793_005)
-            .wrapping_add(1_442_695_040_888_963_407);
-        ((self.state >> 33) % u64::from(bound.max(1))) as u16
-    }
+impl Generator for Dice {
+    ghost use Rattle.std.specs.Prelude.{◌+◌, ◌*◌, ◌/◌, ◌%◌, ◌^◌};
 
-    // A number from 1 to a bound.
-    fn up_to(&mut self, bound: u16) -> u16 {
-        self.below(bound).saturating_add(1)
+    ghost after = { λ dice. record { steps = record { state = (dice.steps.state * 6364136223846793005 + 1442695040888963407) % 2 ^ 64 } } };
+
+    ghost number = { λ dice. (dice.steps.state * 6364136223846793005 + 1442695040888963407) % 2 ^ 64 / 2 ^ 33 };
+
+    fn next(&mut self) -> u64 {
+        self.steps.step() >> 33
     }
 }
 
@@ -124,7 +121,9 @@ pub(crate) fn compare(rt: &HostRuntime) -> anyhow::Result<()> {
     let heap = rt.alloc();
     let timetable = Timetable::new(2, 2).map_err(|_| anyhow!("every second slot is a timetable"))?;
     let share = Share::new(Whole, 2, 3).map_err(|_| anyhow!("2 in 3 is a share"))?;
-    let mut dice = Dice { state: 2_026 };
+    let mut dice = Dice {
+        steps: Steps::new(2_026),
+    };
     let mut tally = Tally {
         met: 0,
         missed: 0,

@@ -1,8 +1,9 @@
 // Piles of two shares over a timetable, in every phase and over many numbers of slots.
 use crate::player::{Part, Row, SharePlayer, given_in};
-use crate::tally::Tally;
+use crate::tally::print;
 use std::io;
 use supply::{Share, Supply, Timetable};
+use trial_tools::Tally;
 
 static WINDOWS: [u16; 12] = [0, 1, 2, 3, 4, 5, 8, 13, 31, 64, 127, 300];
 
@@ -64,7 +65,7 @@ static PILES: [Numbers; 7] = [
 ];
 
 // How many of n slots are given, from these places of the row and of the two shares on.
-fn given_at(row: &Row, numbers: Numbers, place: u8, inner: u8, outer: u8, n: u16) -> u32 {
+fn given_at(row: &Row, numbers: Numbers, place: u8, inner: u8, outer: u8, n: u16) -> u16 {
     let first = SharePlayer {
         below: row.play(place),
         part: numbers.inner,
@@ -75,7 +76,7 @@ fn given_at(row: &Row, numbers: Numbers, place: u8, inner: u8, outer: u8, n: u16
         part: numbers.outer,
         place: outer,
     };
-    u32::from(given_in(second, n))
+    given_in(second, n)
 }
 
 // The phase to be answered with the least: the worst place of the row, and of each share the first place that is not taken.
@@ -92,23 +93,23 @@ fn worst_phase(row: &Row, numbers: Numbers, n: u16) -> u32 {
 // Phase p + N x r comes after r times the N phases below, so the place in the row goes round fastest.
 fn compare(tally: &mut Tally, pile: &Share<Share<Timetable>>, row: &Row, numbers: Numbers, n: u16) {
     let far = pile.phases().wrapping_mul(4000);
-    let mut fewest = u32::MAX;
+    let mut fewest = u16::MAX;
     let mut phase: u32 = 0;
     for outer in 0..numbers.outer.turn {
         for inner in 0..numbers.inner.turn {
             for place in 0..numbers.length {
                 let given = given_at(row, numbers, place, inner, outer, n);
-                tally.note(u32::from(pile.count(phase, n)), given);
-                tally.note(u32::from(pile.count(far.wrapping_add(phase), n)), given);
+                tally.note(pile.count(phase, n) == given);
+                tally.note(pile.count(far.wrapping_add(phase), n) == given);
                 fewest = fewest.min(given);
                 phase = phase.wrapping_add(1);
             }
         }
     }
     let (number, worst) = pile.least(n);
-    tally.note(u32::from(number), fewest);
-    tally.note(worst, worst_phase(row, numbers, n));
-    tally.note(pile.phases(), phase);
+    tally.note(number == fewest);
+    tally.note(worst == worst_phase(row, numbers, n));
+    tally.note(pile.phases() == phase);
 }
 
 // The pile of these numbers, if they make one.
@@ -128,13 +129,13 @@ fn compare_windows(tally: &mut Tally, pile: &Share<Share<Timetable>>, row: &Row,
 }
 
 pub fn compare_all(rt: &HostRuntime) -> io::Result<()> {
-    let mut tally = Tally::new();
+    let mut tally = Tally::of("piles of two shares");
     for numbers in PILES {
         let row = Row::of(rt.alloc(), numbers.length, numbers.word)?;
         match made(numbers) {
             Some(pile) => compare_windows(&mut tally, &pile, &row, numbers),
-            None => tally.note(0, 1),
+            None => tally.note(false),
         }
     }
-    tally.print(rt, "piles of two shares")
+    print(rt, &tally)
 }

@@ -1,31 +1,10 @@
-// How many answers were compared, and how many of them differ.
 use std::io;
+use trial_tools::Tally;
 
-#[derive(Drop)]
-pub struct Tally {
-    pub compared: u32,
-    pub differ: u32,
-}
-
-impl Tally {
-    pub fn new() -> Tally {
-        Tally {
-            compared: 0,
-            differ: 0,
-        }
-    }
-
-    // Takes down an answer beside what was expected.
-    pub fn note(&mut self, answer: u32, expected: u32) {
-        self.compared = self.compared.saturating_add(1);
-        if answer != expected {
-            self.differ = self.differ.saturating_add(1);
-        }
-    }
-
-    pub fn print(&self, rt: &impl Print, name: &str) -> io::Result<()> {
-        let compared = self.compared;
-        let differ = self.differ;
-        println!(rt; "{name}: {compared} answers compared, {differ} differ")
-    }
+// Prints how many answers of a group were compared, and how many of them differ.
+pub fn print(rt: &impl Print, tally: &Tally) -> io::Result<()> {
+    let group = tally.group;
+    let compared = tally.compared;
+    let differ = tally.differ;
+    println!(rt; "{group}: {compared} answers compared, {differ} differ")
 }

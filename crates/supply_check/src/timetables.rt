@@ -1,9 +1,10 @@
 // Timetables of many lengths, in every phase and over many numbers of slots.
 use crate::player::{Row, given_in};
-use crate::tally::Tally;
+use crate::tally::print;
 use std::alloc::{AllocError, Global};
 use std::io;
 use supply::{Supply, Timetable};
+use trial_tools::{Steps, Tally};
 
 static WINDOWS: [u16; 17] = [
     0, 1, 2, 3, 4, 5, 8, 13, 31, 64, 65, 127, 128, 300, 511, 700, 65_535,
@@ -13,14 +14,14 @@ static WINDOWS: [u16; 17] = [
 fn compare(tally: &mut Tally, table: &Timetable, row: &Row, n: u16) {
     let (number, phase) = table.least(n);
     let (fewest, first) = row.fewest(n);
-    tally.note(u32::from(number), u32::from(fewest));
-    tally.note(phase, u32::from(first));
+    tally.note(number == fewest);
+    tally.note(phase == u32::from(first));
     for place in 0..row.length {
-        let given = u32::from(given_in(row.play(place), n));
+        let given = given_in(row.play(place), n);
         let phase = u32::from(place);
         let far = phase + 16_000_000 * u32::from(row.length);
-        tally.note(u32::from(table.count(phase, n)), given);
-        tally.note(u32::from(table.count(far, n)), given);
+        tally.note(table.count(phase, n) == given);
+        tally.note(table.count(far, n) == given);
     }
 }
 
@@ -38,22 +39,20 @@ fn compare_windows(
                 compare(tally, &table, &row, n);
             }
         }
-        Err(_) => tally.note(0, 1),
+        Err(_) => tally.note(false),
     }
     Ok(())
 }
 
 // Every length, with all slots given and with some that a generator picks.
 pub fn compare_all(rt: &HostRuntime) -> io::Result<()> {
-    let mut tally = Tally::new();
-    let mut state: u64 = 1;
+    let mut tally = Tally::of("timetables");
+    let mut steps = Steps::new(1);
     for length in 1..65 {
         let spare = 64 - length;
-        state = state
-            .wrapping_mul(6364136223846793005)
-            .wrapping_add(1442695040888963407);
+        let word = steps.step();
         compare_windows(rt.alloc(), &mut tally, length, u64::MAX >> spare)?;
-        compare_windows(rt.alloc(), &mut tally, length, (state >> spare).max(1))?;
+        compare_windows(rt.alloc(), &mut tally, length, (word >> spare).max(1))?;
     }
-    tally.print(rt, "timetables")
+    print(rt, &tally)
 }
