@@ -39,10 +39,9 @@ impl Timeline {
 
     // Marks what lies inside a job, and its deadline, as far as they are on the timeline.
     fn mark_job(&mut self, job: &Job) {
-        for t in job.release.saturating_add(1)..job.due {
-            if let Some(instant) = self.instants.get_mut(t) {
-                instant.inside = true;
-            }
+        let after = job.release.saturating_add(1);
+        for instant in self.instants.iter_mut().take(job.due).skip(after) {
+            instant.inside = true;
         }
         if let Some(instant) = self.instants.get_mut(job.due) {
             instant.due = true;

@@ -43,6 +43,7 @@ fn next_rest(lines: LineIter<'_>, t: u16) -> Option<u16>
     requires { t ≤ 30000 }
     ensures { MatchOption result (every (resting t) (rows_left lines.entry) ≡ true) (λ u. (t < u) × ((k : ℕ) → t ≤ k → k < u → every (resting k) (rows_left lines.entry) ≡ false)) }
 {
+    // A loop: the library tells what `find_map` answers by the calls that ran, and no lemma makes that a fact about each line.
     for line in lines {
         if let Some(later) = line.next_rest(t) {
             return Some(later);

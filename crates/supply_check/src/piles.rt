@@ -94,6 +94,7 @@ fn worst_phase(row: &Row, numbers: Numbers, n: u16) -> u32 {
 fn compare(tally: &mut Tally, pile: &Share<Share<Timetable>>, row: &Row, numbers: Numbers, n: u16) {
     let far = pile.phases().wrapping_mul(4000);
     let mut fewest = u16::MAX;
+    // Counted along, and not by a formula: which phase follows which is what is compared.
     let mut phase: u32 = 0;
     for outer in 0..numbers.outer.turn {
         for inner in 0..numbers.inner.turn {
