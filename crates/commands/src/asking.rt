@@ -7,6 +7,8 @@ use lines::Row;
 use std::alloc::{AllocError, Global};
 use supply::Supply;
 
+// These take the heap, a supply and words: the supply is the session's own, so a struct of the three would only lend it again.
+
 // How many of the first slots are given in a phase.
 fn count<S: Supply>(heap: Global, supply: &S, words: &[&str]) -> Result<String, Trouble> {
     let [phase, slots] = words else {

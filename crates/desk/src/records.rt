@@ -6,7 +6,8 @@ use grammar::Fields;
 use std::alloc::{AllocError, Global};
 use texts::{Certificate, Cite};
 
-// One record, as far as the console looks into it.
+// One record, as far as the console looks into it. The fields are read once more here: the sheet's reader opens their supply and
+// keeps none of them.
 #[derive(Drop)]
 pub(crate) enum Record<'a> {
     Supply(Fields),

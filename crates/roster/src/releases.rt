@@ -36,6 +36,7 @@ fn write_at(lines: &Lines, release: u16, t: u16, list: &mut [Job], start: usize)
     ensures place { result ≡ start + length (released_at 0 (rows_of lines.now) t release) }
     ensures list { list.new ≡ written start (released_at 0 (rows_of lines.now) t release) list.old }
 {
+    // Counted along: a line may bring no job, so the numbers of lines are no places of the list.
     let mut place = start;
     for (number, line) in lines.iter().enumerate() {
         if let Some(job) = released_job(number as u8, &line, release, t) {
@@ -53,6 +54,7 @@ fn next_release(lines: &Lines, after: u16, end: u16) -> u16
     ensures bound { result ≤ «end» }
     ensures none_between { (k : ℕ) → after < k → k < result → some (divides k) (rows_of lines.now) ≡ false }
 {
+    // A loop: a fold from the end would say the same in as many words.
     let mut first = u32::from(end);
     for line in lines.iter() {
         let period = line.row().period;

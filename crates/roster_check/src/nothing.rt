@@ -6,7 +6,7 @@ use run::{Job, Outcome};
 use supply::Supply;
 use trial_tools::{Tally, refused, rows};
 
-// A supply that gives no slot at all.
+// A supply that gives no slot at all. (Written as the whole processor is, since each supply answers its questions itself.)
 #[derive(Clone, Copy)]
 pub(crate) struct Nothing;
 

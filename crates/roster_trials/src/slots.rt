@@ -10,7 +10,8 @@ const STARTS: usize = 64;
 // How many of the first n slots are given, for each n.
 type Played = [u16; 315];
 
-// A supply by its numbers, and what any n slots in a row are sure to hold, for each n.
+// A supply by its numbers, and what any n slots in a row are sure to hold, for each n. (Arrays: there is one figure for each
+// instant that is tried, no more and no fewer.)
 #[derive(Clone, Copy)]
 pub(crate) struct Slots {
     plan: Plan,

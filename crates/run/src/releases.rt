@@ -1,7 +1,7 @@
 ghost use Rattle.std.specs.Prelude.{◌≡◌, length, replicate};
 
 // What the jobs of a list that were taken leave to the next one: the last release, the instant from which on each line may
-// release again, and the largest deadline.
+// release again, and the largest deadline. (An array: there are 8 lines, and a run takes no heap.)
 #[derive(Clone, Copy)]
 pub(crate) struct Releases {
     pub(crate) last: u16,

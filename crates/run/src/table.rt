@@ -5,7 +5,7 @@ mod methods;
 
 use crate::ready::Ready;
 
-// The ready table: for each line, by its number, the job that it released last, if it is unfinished. No earlier job of the
+// The ready table, an array since there are 8 lines and a run takes no heap: for each line, by its number, the job that it released last, if it is unfinished. No earlier job of the
 // line is unfinished, since each is due by the release of the next one, and a run stops where a deadline is missed.
 #[derive(Clone, Copy)]
 pub(crate) struct Table {

@@ -64,7 +64,8 @@ static PILES: [Numbers; 7] = [
     },
 ];
 
-// How many of n slots are given, from these places of the row and of the two shares on.
+// How many of n slots are given, from these places of the row and of the two shares on. (Three places, and no struct of them:
+// they come from the three loops below, and go nowhere else.)
 fn given_at(row: &Row, numbers: Numbers, place: u8, inner: u8, outer: u8, n: u16) -> u16 {
     let first = SharePlayer {
         below: row.play(place),

@@ -15,6 +15,7 @@ struct WitnessList {
 impl Session {
     // How many jobs the witness has: a list of none is too short for it, and the refusal names the length.
     fn witness_length(&self) -> Result<usize, Trouble> {
+        // A match: one of the refusals is an answer here, and the others are handed on.
         match self.roster.witness(&mut []) {
             Ok(witness) => Ok(witness.jobs),
             Err(
