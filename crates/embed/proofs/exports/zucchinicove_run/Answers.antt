@@ -7,4 +7,4 @@ use Rattle.std.proofs.Common.{◌≡◌, sym, subst, rules}
 pub returns-clause-admitted : goal.returns-clause-admitted
 returns-clause-admitted c =
     let told : c.into.result ≡ run_as c.run_on.result = search rules in
-    subst (λ answer. NeverMissed c.args.bytes.now c.args.jobs.now answer) (sym told) (never_missed c.args.bytes.now c.args.phase c.args.jobs.now c.args.slots.now c.run_on.new.slots c.run_on.result c.run_on.ensures)
+    subst (λ answer. NeverMissed c.args.bytes.now c.args.jobs.now answer) (sym told) (never_missed c.args.bytes.now _ c.args.jobs.now _ _ c.run_on.result c.run_on.ensures)
