@@ -13,8 +13,9 @@ fn run(rt: &HostRuntime) -> anyhow::Result<()> {
     let mut sheet = Vec::new(rt.alloc());
     rt.stdin().read_to_end(&mut sheet)?;
     let mut text = [0; ROOM];
-    let length = report(sheet.as_slice(), &mut text)
-        .map_err(|_| anyhow!("the report is longer than its list"))?;
+    let length = report(sheet.as_slice(), &mut text).map_err(|_| anyhow!(
+        "the report is longer than its list"
+    ))?;
     rt.stdout().write_all(&text[0..length])?;
     Ok(())
 }
