@@ -1,20 +1,30 @@
 // What a person reads of a refusal.
 ghost use Rattle.refusal.specs.Texts.{layer_word, refusal_text, sentence};
-ghost use Rattle.std.specs.Prelude.{◌≡◌, Some};
+ghost use Rattle.std.specs.Prelude.{◌≡◌, ◌≤◌, length, Some};
 
 use crate::{Layer, Reason, Refusal};
 use std::fmt;
+
+impl Layer {
+    // The word for a layer.
+    pub fn word(self) -> &'static str
+        ensures word { result.now ≡ layer_word self }
+        ensures brief { length result.now ≤ 6 }
+    {
+        match self {
+            Layer::Supply => "supply",
+            Layer::Roster => "roster",
+            Layer::Run => "run",
+            Layer::Sheet => "sheet",
+        }
+    }
+}
 
 impl fmt::Display for Layer {
     ghost output = { λ layer. Some (layer_word layer) };
 
     fn fmt<W: fmt::Write>(&self, f: &mut fmt::Formatter<W>) -> fmt::Result {
-        match self {
-            Layer::Supply => f.write_str("supply"),
-            Layer::Roster => f.write_str("roster"),
-            Layer::Run => f.write_str("run"),
-            Layer::Sheet => f.write_str("sheet"),
-        }
+        f.write_str(self.word())
     }
 }
 

@@ -7,8 +7,7 @@ use Rattle.lines.specs.declared.row.Row.{Row}
 use Rattle.refusal.specs.Answers.{Answered, left}
 use Rattle.refusal.specs.Numbers.{number_of}
 use Rattle.refusal.specs.declared.Refusal.{Refusal}
-use Rattle.refusal.specs.declared.layer.Layer as layer
-use Rattle.refusal.specs.declared.layer.Layer.{Layer}
+use Rattle.refusal.specs.Texts.{layer_word}
 use Rattle.roster.specs.Lent.{fronted}
 use Rattle.roster.specs.Working.{rows_in, watched_in}
 use Rattle.roster.specs.declared.roster.Roster.{Roster}
@@ -36,16 +35,10 @@ figures rows watched =
 abbrev pub figures_text : List Row → List ℕ → Option ℕ → List ℕ
 figures_text rows watched verdict = figures rows watched ++ verdict_line verdict
 
-abbrev pub layer_name : Layer → List ℕ
-layer_name layer.TheVariants.Supply = codes "supply"
-layer_name layer.TheVariants.Roster = codes "roster"
-layer_name layer.TheVariants.Run = codes "run"
-layer_name layer.TheVariants.Sheet = codes "sheet"
-
 -- The report on a refused sheet: one line.
 abbrev pub refusal_text : SheetRefusal → List ℕ
 refusal_text e =
-    codes "refused " ++ (decimal (number_of e.refusal.reason) ++ (32 ∷ (layer_name e.refusal.layer ++ (codes " record " ++ (decimal e.«record» ++ (codes " byte " ++ (decimal e.byte ++ (10 ∷ []))))))))
+    codes "refused " ++ (decimal (number_of e.refusal.reason) ++ (32 ∷ (layer_word e.refusal.layer ++ (codes " record " ++ (decimal e.«record» ++ (codes " byte " ++ (decimal e.byte ++ (10 ∷ []))))))))
 
 -- A text tells the figures of a roster, with its verdict, which is exact after whatever calls.
 pub record Tells (roster : Roster Named) (text : List ℕ) : Type 0 where

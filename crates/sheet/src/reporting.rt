@@ -2,28 +2,15 @@
 ghost use Rattle.std.specs.Prelude.{◌≡◌, ◌≤◌, length};
 ghost use Rattle.roster.specs.Working.{rows_in, watched_in};
 ghost use Rattle.sheet.specs.Drafts.{drafted};
-ghost use Rattle.sheet.specs.Reports.{layer_name, figures, refusal_text, Tells, Reported};
+ghost use Rattle.sheet.specs.Reports.{figures, refusal_text, Tells, Reported};
 
 use crate::digits::digits;
 use crate::draft::Draft;
 use crate::reading::from_bytes;
 use crate::sheet_refusal::SheetRefusal;
-use refusal::{Layer, Refusal};
+use refusal::Refusal;
 use roster::Roster;
 use supply::Named;
-
-// A layer's name, as bytes: its `Display` needs a `write!`, which may fail by its contract where a report may not.
-fn layer_name(layer: Layer) -> &'static [u8]
-    ensures name { result.now ≡ layer_name layer }
-    ensures brief { length result.now ≤ 6 }
-{
-    match layer {
-        Layer::Supply => b"supply",
-        Layer::Roster => b"roster",
-        Layer::Run => b"run",
-        Layer::Sheet => b"sheet",
-    }
-}
 
 // The line that says why a sheet is refused.
 fn refusal_line(refusal: SheetRefusal) -> Draft
@@ -35,7 +22,7 @@ fn refusal_line(refusal: SheetRefusal) -> Draft
         b"refused ",
         digits(u32::from(why.reason.number())).as_slice(),
         b" ",
-        layer_name(why.layer),
+        why.layer.word().as_bytes(),
         b" record ",
         digits(refusal.record).as_slice(),
         b" byte ",

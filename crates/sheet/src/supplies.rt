@@ -26,6 +26,5 @@ pub fn supply_of(fields: Fields) -> Result<Named, Refusal>
     if fields.share == 0 && fields.of == 0 {
         return Ok(Named::Plain(bottom));
     }
-    let share = Share::new(bottom, fields.share, fields.of).map_err(|back| back.refusal)?;
-    Ok(Named::Shared(share))
+    Ok(Named::Shared(Share::new(bottom, fields.share, fields.of)?))
 }
