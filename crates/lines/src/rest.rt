@@ -57,7 +57,7 @@ pub(crate) fn first_rest_of(lines: LineIter<'_>) -> u16
     requires { hyperperiod (rows_left lines) ≤ 30000 }
     ensures { (result ≡ first_rest (rows_left lines.entry)) × (result ≤ 30000) }
 {
-    // A loop: each step starts at the last answer, and `successors` knows no end of such steps.
+    // A loop: each step starts at the last answer. `successors` would put the step in a closure and its end in a clause.
     let mut t = 1;
     while let Some(later) = next_rest(lines, t) {
         t = later;

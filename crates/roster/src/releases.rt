@@ -36,7 +36,7 @@ fn write_at(lines: &Lines, release: u16, t: u16, list: &mut [Job], start: usize)
     ensures place { result ≡ start + length (released_at 0 (rows_of lines.now) t release) }
     ensures list { list.new ≡ written start (released_at 0 (rows_of lines.now) t release) list.old }
 {
-    // Counted along: a line may bring no job, so the numbers of lines are no places of the list.
+    // Counted along, since a line may bring no job: a `zip` with the places would lose the place behind the last job.
     let mut place = start;
     for (number, line) in lines.iter().enumerate() {
         if let Some(job) = released_job(number as u8, &line, release, t) {
@@ -54,7 +54,7 @@ fn next_release(lines: &Lines, after: u16, end: u16) -> u16
     ensures bound { result ≤ «end» }
     ensures none_between { (k : ℕ) → after < k → k < result → some (divides k) (rows_of lines.now) ≡ false }
 {
-    // A loop: a fold from the end would say the same in as many words.
+    // A loop: `map(..).fold(end, min)` says the same in as many words, and its proof would restate the loop's facts over a list.
     let mut first = u32::from(end);
     for line in lines.iter() {
         let period = line.row().period;
@@ -71,7 +71,7 @@ pub(crate) fn write_released(lines: &Lines, t: u16, list: &mut [Job])
     let mut place = 0;
     let mut release = 0;
 
-    // From release to release: most instants release nothing, and a walk over all of them would ask each line at each.
+    // A loop from release to release: each starts at the last one, and the place goes on from one to the next.
     while release < t {
         place = write_at(lines, release, t, list, place);
         release = next_release(lines, release, t);

@@ -7,7 +7,7 @@ use refusal::Refusal;
 use supply::Supply;
 
 impl<S: Supply> Roster<S> {
-    // Makes a call, whichever it is.
+    // Makes a call, whichever it is. A match: a call is a value that lists hold, so it can't be the closure of what is done.
     pub fn make(&mut self, call: Call) -> Result<(), Refusal>
         ensures { Works (S.meaning self.old.supply) self.old self.new (call_of call.entry) result (λ _. Unit {0}) }
     {

@@ -7,7 +7,8 @@ use crate::supply::Supply;
 use crate::timetable::Timetable;
 
 impl Timetable {
-    // How many of the first x slots from the row's start on are given: whole turns by the ones of the word, the slots left over by those of its lowest bits.
+    // How many of the first x slots from the row's start on are given: whole turns by the ones of the word, the slots left over by
+    // those of its lowest bits.
     fn given_before(&self, x: u32) -> u32
         ensures { result ≡ from (bits self.now.length self.now.word) 0 x }
     {
