@@ -88,11 +88,13 @@ impl Known {
         self.lists.note(case.watched.are(&lines.full_list()));
     }
 
-    // The counts of the lines, by number.
+    // The counts of the lines, by number. Where there are not as many lines as counts, that is a difference.
     fn compare_counts(&mut self, lines: &Lines) {
-        for (number, count) in COUNTS.iter().enumerate() {
-            let answer = lines.get(number).map(|line| line.count(COUNTED_AT));
-            self.counts.note(answer == Some(*count));
+        if lines.len() != COUNTS.len() {
+            self.counts.note(false);
+        }
+        for (line, count) in lines.iter().zip(COUNTS.iter()) {
+            self.counts.note(line.count(COUNTED_AT) == *count);
         }
     }
 }

@@ -64,23 +64,24 @@ impl Sets {
         self.lists.note(lines.full_list().as_slice() == watched);
     }
 
-    // The count of each line at an instant, and what they ask for together.
+    // The count of each line at an instant, and what they ask for together. Where lines are missing, that is a difference.
     fn compare_counts(&mut self, lines: &Lines, jobs: &[Jobs], t: u16) {
         let instant = usize::from(t);
-        for (number, of_line) in jobs.iter().enumerate() {
-            let count = lines.get(number).map(|line| usize::from(line.count(t)));
-            self.counts.note(count == Some(of_line.count(instant)));
+        if lines.len() != jobs.len() {
+            self.counts.note(false);
+        }
+        for (line, of_line) in lines.iter().zip(jobs.iter()) {
+            self.counts
+                .note(usize::from(line.count(t)) == of_line.count(instant));
         }
         self.demands.note(lines.demand(t) == demand(jobs, instant));
     }
 
     // Counts at many instants.
     fn compare_instants(&mut self, lines: &Lines, jobs: &[Jobs], random: &mut Random) {
-        for t in 0..EACH {
+        let some = (0..SOME).map(|_| random.up_to(u16::MAX));
+        for t in (0..EACH).chain(some) {
             self.compare_counts(lines, jobs, t);
-        }
-        for _ in 0..SOME {
-            self.compare_counts(lines, jobs, random.up_to(u16::MAX));
         }
     }
 
