@@ -57,33 +57,18 @@ static UNLAWFUL: [Unlawful; 11] = [
     },
 ];
 
+// As many lines as there may be.
+const EIGHT: [Row; 8] = [row!(1, 1, 1); 8];
+
 // Lines beside others.
 static UNTAKEN: [Untaken; 7] = [
     Untaken {
-        before: rows![
-            (1, 1, 1),
-            (1, 1, 1),
-            (1, 1, 1),
-            (1, 1, 1),
-            (1, 1, 1),
-            (1, 1, 1),
-            (1, 1, 1),
-            (1, 1, 1)
-        ],
+        before: &EIGHT,
         row: row!(1, 1, 1),
         refused: refused!(LinesFull),
     },
     Untaken {
-        before: rows![
-            (1, 1, 1),
-            (1, 1, 1),
-            (1, 1, 1),
-            (1, 1, 1),
-            (1, 1, 1),
-            (1, 1, 1),
-            (1, 1, 1),
-            (1, 1, 1)
-        ],
+        before: &EIGHT,
         row: row!(0, 0, 0),
         refused: refused!(LinesFull),
     },
@@ -114,18 +99,28 @@ static UNTAKEN: [Untaken; 7] = [
     },
 ];
 
-// Compares every refusal: the unlawful figures on their own and as a first line, and the lines beside others.
-pub(crate) fn compared() -> Tally {
-    let mut tally = Tally::of("known refusals");
+// Compares how the unlawful figures are refused, on their own and as a first line.
+fn compare_unlawful(tally: &mut Tally) {
     for case in &UNLAWFUL {
         tally.note(Line::new(case.row).err() == case.refused);
         tally.note(Lines::none().add(case.row).err() == case.refused);
     }
+}
+
+// Compares how lines are refused beside others.
+fn compare_untaken(tally: &mut Tally) {
     for case in &UNTAKEN {
         match taken(case.before) {
             Some((lines, _)) => tally.note(lines.add(case.row).err() == case.refused),
             None => tally.note(false),
         }
     }
+}
+
+// Compares every refusal.
+pub(crate) fn compared() -> Tally {
+    let mut tally = Tally::of("known refusals");
+    compare_unlawful(&mut tally);
+    compare_untaken(&mut tally);
     tally
 }

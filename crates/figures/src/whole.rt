@@ -12,16 +12,22 @@ fn given(n: u16) -> usize {
     (0..n).count()
 }
 
+// Compares the answers for the first n slots, in each phase and in the worst.
+fn compare_slots(tally: &mut Tally, n: u16) {
+    let given = given(n);
+    for phase in &PHASES {
+        tally.note(usize::from(Whole.count(*phase, n)) == given);
+    }
+    let (least, phase) = Whole.least(n);
+    tally.note(usize::from(least) == given && phase == 0);
+}
+
 // Compares the answers of the whole processor.
 pub(crate) fn compared() -> Tally {
     let mut tally = Tally::of("whole processor");
     tally.note(Whole.phases() == 1);
     for n in &SLOTS {
-        for phase in &PHASES {
-            tally.note(usize::from(Whole.count(*phase, *n)) == given(*n));
-        }
-        let (least, phase) = Whole.least(*n);
-        tally.note(usize::from(least) == given(*n) && phase == 0);
+        compare_slots(&mut tally, *n);
     }
     tally
 }
