@@ -27,6 +27,7 @@ pub(crate) fn expected(heap: Global, lines: &[Jobs]) -> Result<Expected, AllocEr
         return Ok(Err(Reason::HyperperiodTooLong));
     };
     let timeline = Timeline::of(heap, lines, hyperperiod)?;
+    // The hyperperiod lies inside no job, so one is found; without one, 0 would differ from every rest point.
     let rest = timeline.first_rest().unwrap_or(0);
     let watched = timeline.deadlines(heap, rest)?;
     if watched.len() > MOST {
