@@ -149,16 +149,7 @@ static CUTS: [Cut; 22] = [
 // Lines beside others.
 static UNTAKEN: [Untaken; 12] = [
     Untaken {
-        before: rows![
-            (1, 1, 1),
-            (1, 1, 1),
-            (1, 1, 1),
-            (1, 1, 1),
-            (1, 1, 1),
-            (1, 1, 1),
-            (1, 1, 1),
-            (1, 1, 1)
-        ],
+        before: &[row!(1, 1, 1); 8],
         row: row!(0, 0, 0),
         refused: refused!(LinesFull),
     },
