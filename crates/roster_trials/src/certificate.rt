@@ -6,7 +6,8 @@ use lines::Row;
 use std::alloc::{AllocError, Global};
 use trial_tools::Cite;
 
-// The deadline that is to leave, the divisor, and the cites.
+// The deadline that is to leave, the divisor, and the cites. (A type of its own beside the one of texts, which is plain: this one
+// counts by the definitions.)
 #[derive(Drop)]
 pub(crate) struct Certificate {
     pub(crate) deadline: u16,
@@ -41,11 +42,9 @@ impl Certificate {
     fn cited<F: Fn(u16) -> u64>(&self, figure: F) -> u64
         requires { F.IsAlwaysCallable figure }
     {
-        let mut sum = 0u64;
-        for cite in self.cites.as_slice() {
-            sum = sum.saturating_add(weighed(cite.weight, figure(cite.deadline)));
-        }
-        sum
+        self.cites.iter().fold(0u64, |sum, cite| {
+            sum.saturating_add(weighed(cite.weight, figure(cite.deadline)))
+        })
     }
 
     // Whether the cites cover the count of a line.

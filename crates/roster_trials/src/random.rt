@@ -13,20 +13,20 @@ pub(crate) fn row(random: &mut Random, dearest: u16) -> Row {
     random.row(period, dearest)
 }
 
-// The last of a rising list that comes by t, and 0 where none does.
-fn last_by(list: &[u16], t: u16) -> u16 {
-    list.iter().copied().filter(|d| *d <= t).last().unwrap_or(0)
+// The last of a rising list that comes by t.
+fn last_by(list: &[u16], t: u16) -> Option<u16> {
+    list.iter().copied().filter(|d| *d <= t).last()
 }
 
 // A deadline of a list that comes by t, the last or any, and mostly another than d.
-fn cited(random: &mut Random, list: &[u16], d: u16, t: u16) -> u16 {
+fn cited(random: &mut Random, list: &[u16], d: u16, t: u16) -> Option<u16> {
     let most = if random.below(2) == 0 {
         t
     } else {
         random.of(list).min(t)
     };
     let last = last_by(list, most);
-    if last == d && random.below(16) != 0 {
+    if last == Some(d) && random.below(16) != 0 {
         return last_by(list, d.saturating_sub(1));
     }
     last
@@ -43,14 +43,15 @@ pub(crate) fn certificate(
     let mut left = deadline.saturating_mul(divisor);
     let mut cites = Vec::new(heap);
     for _ in 0..8 {
-        let cited = cited(random, list, deadline, left);
+        // Where none comes before the deadline itself, 0 is cited, which is never watched.
+        let cited = cited(random, list, deadline, left).unwrap_or(0);
         let weight = random.up_to(3).saturating_sub(1).max(1);
         left = left.saturating_sub(cited.saturating_mul(weight));
         cites.push(Cite {
             deadline: cited,
             weight,
         })?;
-        if last_by(list, left) == 0 {
+        if last_by(list, left).is_none() {
             break;
         }
     }
