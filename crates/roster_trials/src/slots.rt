@@ -63,14 +63,19 @@ fn lower(least: &mut [u16; 251], given: &Played) {
     }
 }
 
+// Lowers what is sure to what the phases hold that begin at one place of the share's turn.
+fn lower_round(least: &mut [u16; 251], plan: Plan, round: u8) {
+    for start in 0..plan.length {
+        lower(least, &played(plan, start, round));
+    }
+}
+
 impl Slots {
     // The slots of a supply, in every phase.
     pub(crate) fn of(plan: Plan) -> Slots {
         let mut least = [u16::MAX; 251];
         for round in 0..plan.turn {
-            for start in 0..plan.length {
-                lower(&mut least, &played(plan, start, round));
-            }
+            lower_round(&mut least, plan, round);
         }
         Slots { plan, least }
     }
