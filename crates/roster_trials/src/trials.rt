@@ -98,7 +98,7 @@ pub(crate) struct Groups {
 
 // What every trial works with: the heap, the groups of comparisons, and the random numbers.
 #[derive(Drop)]
-struct Bench {
+struct Trials {
     heap: Global,
     groups: Groups,
     random: Random,
@@ -110,33 +110,33 @@ struct Trial {
     roster: Roster<Named>,
     model: Model,
     slots: Slots,
-    lines: u16,
 }
 
 impl Trial {
     // One line more.
-    fn enrol(&mut self, bench: &mut Bench, row: Row) -> Result<(), AllocError> {
-        bench.groups.calls.note(self.roster.enrol(row).is_ok());
+    fn enrol(&mut self, trials: &mut Trials, row: Row) -> Result<(), AllocError> {
+        trials.groups.calls.note(self.roster.enrol(row).is_ok());
         self.model.enrol(row)
     }
 
     // The number of a line that is there.
     fn line(&self, random: &mut Random) -> u8 {
-        (random.below(self.lines) & 0xff) as u8
+        let many = u16::try_from(self.model.rows().len()).unwrap_or(u16::MAX);
+        u8::try_from(random.below(many)).unwrap_or(u8::MAX)
     }
 
     // A line less.
-    fn strike(&mut self, bench: &mut Bench) -> Result<(), AllocError> {
-        let line = self.line(&mut bench.random);
-        bench.groups.calls.note(self.roster.strike(line).is_ok());
+    fn strike(&mut self, trials: &mut Trials) -> Result<(), AllocError> {
+        let line = self.line(&mut trials.random);
+        trials.groups.calls.note(self.roster.strike(line).is_ok());
         self.model.strike(line)
     }
 
     // Another cost of a line.
-    fn recost(&mut self, bench: &mut Bench) {
-        let line = self.line(&mut bench.random);
-        let cost = bench.random.up_to(DEAREST);
-        bench
+    fn recost(&mut self, trials: &mut Trials) {
+        let line = self.line(&mut trials.random);
+        let cost = trials.random.up_to(DEAREST);
+        trials
             .groups
             .calls
             .note(self.roster.recost(line, cost).is_ok());
@@ -152,19 +152,19 @@ impl Trial {
     }
 
     // A certificate: it is accepted exactly where it is right.
-    fn cut(&mut self, bench: &mut Bench) -> Result<(), AllocError> {
-        let list = self.list(&mut bench.random);
-        let certificate = certificate(&mut bench.random, bench.heap, list.as_slice())?;
-        let bytes = certificate.bytes(bench.heap)?;
+    fn cut(&mut self, trials: &mut Trials) -> Result<(), AllocError> {
+        let list = self.list(&mut trials.random);
+        let certificate = certificate(&mut trials.random, trials.heap, list.as_slice())?;
+        let bytes = certificate.bytes(trials.heap)?;
         let made = self
             .roster
             .cut(certificate.deadline, certificate.divisor, bytes.as_slice())
             .is_ok();
         if certificate.is_right(&self.model, &self.slots) {
-            bench.groups.cuts.note(made);
+            trials.groups.cuts.note(made);
             self.model.leave(certificate.deadline);
         } else {
-            bench.groups.refused_cuts.note(!made);
+            trials.groups.refused_cuts.note(!made);
         }
         Ok(())
     }
@@ -194,23 +194,23 @@ impl Trial {
 
     // What the roster holds, its verdict, and what shows it: the witness where it is overloaded, and the run of a legal list,
     // which is met in any phase, where it fits.
-    fn judge(&self, bench: &mut Bench) -> Result<(), AllocError> {
+    fn judge(&self, trials: &mut Trials) -> Result<(), AllocError> {
         let same = self.model.is_lines(self.roster.lines())
             && self.model.is_list(self.roster.watched().as_slice());
-        bench.groups.states.note(same);
+        trials.groups.states.note(same);
         let expected = overload(self.model.rows(), &self.slots);
         let agreed = self.roster.verdict() == expected;
         match expected {
             Some(t) => {
-                bench.groups.overloads.note(agreed);
-                let list = jobs::witness(bench.heap, self.model.rows(), t)?;
-                bench.groups.witnesses.note(self.shows(list.as_slice(), t));
+                trials.groups.overloads.note(agreed);
+                let list = jobs::witness(trials.heap, self.model.rows(), t)?;
+                trials.groups.witnesses.note(self.shows(list.as_slice(), t));
             }
             None => {
-                bench.groups.fits.note(agreed);
-                let list = jobs::legal(bench.heap, self.model.rows(), &mut bench.random)?;
-                let phase = u32::from(bench.random.below(1000));
-                bench
+                trials.groups.fits.note(agreed);
+                let list = jobs::legal(trials.heap, self.model.rows(), &mut trials.random)?;
+                let phase = u32::from(trials.random.below(1000));
+                trials
                     .groups
                     .lists
                     .note(self.run(list.as_slice(), phase, None));
@@ -220,26 +220,26 @@ impl Trial {
     }
 
     // Some certificates, the roster after each, and another cost.
-    fn cut_some(&mut self, bench: &mut Bench) -> Result<(), AllocError> {
+    fn cut_some(&mut self, trials: &mut Trials) -> Result<(), AllocError> {
         for _ in 0..CUTS {
-            self.cut(bench)?;
-            self.judge(bench)?;
+            self.cut(trials)?;
+            self.judge(trials)?;
         }
-        self.recost(bench);
+        self.recost(trials);
         Ok(())
     }
 
     // Certificates and new costs in turn, and at last a line less.
-    fn work(&mut self, bench: &mut Bench) -> Result<(), AllocError> {
+    fn work(&mut self, trials: &mut Trials) -> Result<(), AllocError> {
         for _ in 0..COSTS {
-            self.cut_some(bench)?;
+            self.cut_some(trials)?;
         }
-        self.strike(bench)?;
-        self.judge(bench)
+        self.strike(trials)?;
+        self.judge(trials)
     }
 }
 
-impl Bench {
+impl Trials {
     // A roster with random lines, on a supply.
     fn enrolled(&mut self, supply: Named, slots: Slots) -> Result<Trial, AllocError> {
         let lines = self.random.up_to(3).saturating_add(1);
@@ -248,7 +248,6 @@ impl Bench {
             roster: Roster::open(supply),
             model: Model::none(self.heap),
             slots,
-            lines,
         };
         for _ in 0..lines {
             let row = row(&mut self.random, dearest);
@@ -303,13 +302,13 @@ impl Groups {
 
 // Tries rosters on every supply.
 pub(crate) fn compared(heap: Global) -> Result<Groups, AllocError> {
-    let mut bench = Bench {
+    let mut trials = Trials {
         heap,
         groups: Groups::none(),
         random: Random::new(1),
     };
     for plan in &PLANS {
-        bench.try_plan(*plan)?;
+        trials.try_plan(*plan)?;
     }
-    Ok(bench.groups)
+    Ok(trials.groups)
 }
