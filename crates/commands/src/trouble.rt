@@ -32,7 +32,7 @@ impl<B: Drop> From<ShareRefused<B>> for Trouble {
     ghost from_gives = { λ back trouble. trouble ≡ Refused back.refusal };
 
     fn from(back: ShareRefused<B>) -> Trouble {
-        Trouble::Refused(back.refusal)
+        Trouble::Refused(Refusal::from(back))
     }
 }
 
