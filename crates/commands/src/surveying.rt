@@ -22,14 +22,12 @@ impl fmt::Display for Untaken {
 
 // The lines of a survey and their full watch list.
 fn taken(rows: &[Row]) -> Result<(Lines, WatchList), Untaken> {
-    let mut all = (Lines::none(), WatchList::none());
-    for (number, row) in rows.iter().enumerate() {
-        all = all
-            .0
+    rows.iter().enumerate().try_fold(
+        (Lines::none(), WatchList::none()),
+        |(lines, _), (number, row)| lines
             .add(*row)
-            .map_err(|refusal| Untaken { number, refusal })?;
-    }
-    Ok(all)
+            .map_err(|refusal| Untaken { number, refusal }),
+    )
 }
 
 // The survey of rows on a supply, or the refusal of the first that can't be taken.
