@@ -10,12 +10,8 @@ fn tick(at: usize) -> char {
     }
 }
 
-// The ruler over the rows: every tenth instant by its number, and a tick for each.
-pub(crate) fn ruler<W: fmt::Write>(
-    f: &mut fmt::Formatter<W>,
-    columns: &Range<usize>,
-) -> fmt::Result {
-    f.write_str("slot    ")?;
+// Every tenth instant of some columns by its number.
+fn numbers<W: fmt::Write>(f: &mut fmt::Formatter<W>, columns: &Range<usize>) -> fmt::Result {
     for at in (columns.start..columns.end).step_by(10) {
         if at.saturating_add(10) < columns.end {
             write!(f, "{at:<10}")?;
@@ -23,9 +19,25 @@ pub(crate) fn ruler<W: fmt::Write>(
             write!(f, "{at}")?;
         }
     }
-    f.write_str("\n        ")?;
+    Ok(())
+}
+
+// A tick for each instant of some columns.
+fn ticks<W: fmt::Write>(f: &mut fmt::Formatter<W>, columns: &Range<usize>) -> fmt::Result {
     for at in columns.start..columns.end {
         f.write_char(tick(at))?;
     }
+    Ok(())
+}
+
+// The ruler over the rows: the numbers, and below them the ticks.
+pub(crate) fn ruler<W: fmt::Write>(
+    f: &mut fmt::Formatter<W>,
+    columns: &Range<usize>,
+) -> fmt::Result {
+    f.write_str("slot    ")?;
+    numbers(f, columns)?;
+    f.write_str("\n        ")?;
+    ticks(f, columns)?;
     f.write_str("\n")
 }
