@@ -5,11 +5,8 @@ mod covered;
 mod watched;
 
 use crate::certificate::Certificate;
-use crate::explanation::absent::absent;
-use crate::explanation::beyond::beyond;
 use crate::explanation::covered::covered;
-use crate::explanation::watched::watched;
-use lines::{Line, Lines, Row};
+use lines::{Line, Row};
 use roster::Roster;
 use std::fmt;
 use supply::Supply;
@@ -22,48 +19,50 @@ pub struct Explanation<'a, S> {
     pub cut: Option<&'a Certificate>,
 }
 
-// Whether a line has a job due just at an instant.
-fn is_due(line: Line, at: u16) -> bool {
-    at > 0 && line.count(at) > line.count(at - 1)
-}
-
-// Whether any line has a job due just at an instant.
-fn is_deadline(lines: &Lines, at: u16) -> bool {
-    lines.iter().any(|line| is_due(line, at))
-}
-
-// Names each line that has a job due just at an instant.
-fn owners<W: fmt::Write>(f: &mut fmt::Formatter<W>, lines: &Lines, at: u16) -> fmt::Result {
-    for (number, line) in lines.iter().enumerate() {
-        if is_due(line, at) {
-            let Row {
-                period,
-                deadline,
-                ..
-            } = line.row();
-            let turns = line.count(at).saturating_sub(1);
-            write!(
-                f,
-                "{at} is a deadline of line {number}: {deadline} + {turns} x {period}\n"
-            )?;
-        }
+impl<'a, S: Supply> Explanation<'a, S> {
+    // Whether a line has a job due just at the instant.
+    fn is_due(&self, line: Line) -> bool {
+        self.at > 0 && line.count(self.at) > line.count(self.at - 1)
     }
-    Ok(())
+
+    // Whether any line has a job due just at the instant.
+    fn is_deadline(&self) -> bool {
+        self.roster.lines().iter().any(|line| self.is_due(line))
+    }
+
+    // Names each line that has a job due just at the instant.
+    fn owners<W: fmt::Write>(&self, f: &mut fmt::Formatter<W>) -> fmt::Result {
+        let at = self.at;
+        for (number, line) in self.roster.lines().iter().enumerate() {
+            if self.is_due(line) {
+                let Row {
+                    period,
+                    deadline,
+                    ..
+                } = line.row();
+                let turns = line.count(at).saturating_sub(1);
+                write!(
+                    f,
+                    "{at} is a deadline of line {number}: {deadline} + {turns} x {period}\n"
+                )?;
+            }
+        }
+        Ok(())
+    }
 }
 
 impl<'a, S: Supply> fmt::Display for Explanation<'a, S> {
     fn fmt<W: fmt::Write>(&self, f: &mut fmt::Formatter<W>) -> fmt::Result {
-        let lines = self.roster.lines();
-        if !is_deadline(lines, self.at) {
-            return absent(f, lines, self.at);
+        if !self.is_deadline() {
+            return self.absent(f);
         }
-        owners(f, lines, self.at)?;
+        self.owners(f)?;
         if self.roster.watched().contains(self.at) {
-            return watched(f, self.roster, self.at);
+            return self.watched(f);
         }
         match self.cut {
             Some(certificate) => covered(f, self.roster, certificate),
-            None => beyond(f, self.roster, self.at),
+            None => self.beyond(f),
         }
     }
 }

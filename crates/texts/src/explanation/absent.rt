@@ -1,5 +1,7 @@
-use lines::{Line, Lines, Row};
+use crate::explanation::Explanation;
+use lines::{Line, Row};
 use std::fmt;
+use supply::Supply;
 
 // The deadlines of a line around an instant.
 fn around<W: fmt::Write>(
@@ -22,18 +24,17 @@ fn around<W: fmt::Write>(
     write!(f, "last at {last}, next at {next}\n")
 }
 
-// An instant at which no line has a job due.
-pub(crate) fn absent<W: fmt::Write>(
-    f: &mut fmt::Formatter<W>,
-    lines: &Lines,
-    at: u16,
-) -> fmt::Result {
-    write!(
-        f,
-        "{at} is no deadline of this roster, so it is not watched\n"
-    )?;
-    for (number, line) in lines.iter().enumerate() {
-        around(f, number, line, at)?;
+impl<'a, S: Supply> Explanation<'a, S> {
+    // An instant at which no line has a job due.
+    pub(crate) fn absent<W: fmt::Write>(&self, f: &mut fmt::Formatter<W>) -> fmt::Result {
+        let at = self.at;
+        write!(
+            f,
+            "{at} is no deadline of this roster, so it is not watched\n"
+        )?;
+        for (number, line) in self.roster.lines().iter().enumerate() {
+            around(f, number, line, at)?;
+        }
+        f.write_str("demand grows only at deadlines, and least never falls\n")
     }
-    f.write_str("demand grows only at deadlines, and least never falls\n")
 }

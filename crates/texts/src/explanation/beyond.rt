@@ -1,6 +1,6 @@
 // Deadlines beyond the first rest point.
+use crate::explanation::Explanation;
 use lines::Line;
-use roster::Roster;
 use std::fmt;
 use supply::Supply;
 
@@ -85,22 +85,20 @@ impl Split {
     }
 }
 
-// A deadline beyond the first rest point: demand splits there, and what is given adds up.
-pub(crate) fn beyond<S: Supply, W: fmt::Write>(
-    f: &mut fmt::Formatter<W>,
-    roster: &Roster<S>,
-    at: u16,
-) -> fmt::Result {
-    let lines = roster.lines();
-    let rest = lines.first_rest();
-    write!(
-        f,
-        "it is not watched: it lies beyond the first rest point {rest}, across which no job lies\n"
-    )?;
-    let split = Split::new(at, rest);
-    for (number, line) in lines.iter().enumerate() {
-        split.asked(f, number, line)?;
+impl<'a, S: Supply> Explanation<'a, S> {
+    // A deadline beyond the first rest point: demand splits there, and what is given adds up.
+    pub(crate) fn beyond<W: fmt::Write>(&self, f: &mut fmt::Formatter<W>) -> fmt::Result {
+        let lines = self.roster.lines();
+        let rest = lines.first_rest();
+        write!(
+            f,
+            "it is not watched: it lies beyond the first rest point {rest}, across which no job lies\n"
+        )?;
+        let split = Split::new(self.at, rest);
+        for (number, line) in lines.iter().enumerate() {
+            split.asked(f, number, line)?;
+        }
+        split.given(f, self.roster.supply())?;
+        split.conclusion(f)
     }
-    split.given(f, roster.supply())?;
-    split.conclusion(f)
 }
