@@ -20,7 +20,7 @@ use supply::Supply;
 const IDLE: u16 = 0;
 
 // The entry of a slot that is not given, and of every slot behind the end of a run.
-const NOT_GIVEN: u16 = 65_535;
+pub const NOT_GIVEN: u16 = 65_535;
 
 // The entry of a given slot that serves the job at a place, or none.
 fn entry_for(served: Option<u16>) -> u16

@@ -12,5 +12,6 @@ mod releases;
 mod table;
 
 pub use call::run;
+pub use follow::NOT_GIVEN;
 pub use job::Job;
 pub use outcome::Outcome;

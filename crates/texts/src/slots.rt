@@ -1,7 +1,5 @@
+use run::NOT_GIVEN;
 use std::fmt;
-
-// The entry of a slot that is not given. Entries are numbers, since C code lends the same lists.
-pub(crate) const NOT_GIVEN: u16 = 65_535;
 
 // The entries of a slot list, a blank before each: 0 for an idle slot, 1 + the place of the job that runs, and a hyphen
 // where no slot is given.

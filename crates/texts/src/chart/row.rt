@@ -1,8 +1,7 @@
 // The row of a line between some columns: what it does in each slot.
 use crate::chart::Chart;
 use crate::due::due;
-use crate::slots::NOT_GIVEN;
-use run::{Job, Outcome};
+use run::{Job, NOT_GIVEN, Outcome};
 use std::fmt;
 use std::ops::Range;
 
