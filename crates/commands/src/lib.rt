@@ -14,7 +14,7 @@ mod words;
 
 pub use asking::{ask, opened};
 pub use conversation::{Obey, converse};
-pub use opening::{WHOLE, named};
+pub use opening::named;
 pub use trouble::Trouble;
 pub use usage::Usage;
 pub use words::{Typed, all, number};

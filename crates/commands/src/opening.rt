@@ -5,14 +5,6 @@ use crate::words::number;
 use grammar::Fields;
 use supply::{Share, Timetable, Whole};
 
-// The fields of the whole processor.
-pub const WHOLE: Fields = Fields {
-    length: 0,
-    word: 0,
-    share: 0,
-    of: 0,
-};
-
 // The fields of a timetable. One that is unlawful is refused here: length and number 0 would name the whole processor.
 fn timetable(length: &str, word: &str) -> Result<Fields, Trouble> {
     let length = number(length, Usage::Open)?;
@@ -21,7 +13,7 @@ fn timetable(length: &str, word: &str) -> Result<Fields, Trouble> {
     Ok(Fields {
         length,
         word,
-        ..WHOLE
+        ..Fields::WHOLE
     })
 }
 
@@ -36,7 +28,7 @@ fn shared(below: Fields, s: &str, f: &str) -> Result<Fields, Trouble> {
 // The fields of the whole processor, or of a timetable.
 fn bottom(words: &[&str]) -> Result<Fields, Trouble> {
     match words {
-        ["whole"] => Ok(WHOLE),
+        ["whole"] => Ok(Fields::WHOLE),
         ["timetable", length, word] => timetable(length, word),
         _ => Err(Trouble::Usage(Usage::Open)),
     }

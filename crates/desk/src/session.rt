@@ -6,7 +6,7 @@ mod runs;
 mod sheets;
 mod witnesses;
 
-use commands::{Obey, Trouble, Usage, WHOLE, ask, named, opened};
+use commands::{Obey, Trouble, Usage, ask, named, opened};
 use grammar::Fields;
 use roster::Roster;
 use sheet::supply_of;
@@ -58,7 +58,7 @@ impl Session {
         Session {
             heap,
             roster: Roster::open(Named::Plain(Bottom::Whole(Whole))),
-            fields: WHOLE,
+            fields: Fields::WHOLE,
             cuts: Vec::new(heap),
         }
     }

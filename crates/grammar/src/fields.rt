@@ -6,3 +6,13 @@ pub struct Fields {
     pub share: u8,
     pub of: u8,
 }
+
+impl Fields {
+    // Those of the whole processor.
+    pub const WHOLE: Fields = Fields {
+        length: 0,
+        word: 0,
+        share: 0,
+        of: 0,
+    };
+}

@@ -7,17 +7,10 @@ use refusal::{Layer, Reason, Refusal};
 use std::alloc::{AllocError, Global};
 use trial_tools::Tally;
 
-static WHOLE: Fields = Fields {
-    length: 0,
-    word: 0,
-    share: 0,
-    of: 0,
-};
-
 // A good sheet with zeros behind it, of a length.
 fn with_zeros(heap: Global, length: usize) -> Result<Draft, AllocError> {
     let mut draft = Draft::new(heap);
-    draft.open(WHOLE)?;
+    draft.open(Fields::WHOLE)?;
     draft.close()?;
     for _ in 17..length {
         draft.raw(&[0])?;
@@ -43,7 +36,7 @@ pub(crate) fn compare_lengths(bench: &mut Bench) -> Result<(), AllocError> {
 // A sheet that ends behind a certificate of a number of cites.
 fn with_cites(heap: Global, number: u8) -> Result<Draft, AllocError> {
     let mut draft = Draft::new(heap);
-    draft.open(WHOLE)?;
+    draft.open(Fields::WHOLE)?;
     draft.cut(5, 1, number, &[])?;
     for _ in 0..number {
         draft.raw(b"\0\x05\0\x01")?;

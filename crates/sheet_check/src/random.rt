@@ -55,12 +55,7 @@ impl Random {
 
     // Fields that name the whole processor or a timetable, and half of the time a share of it.
     pub(crate) fn fields(&mut self) -> Fields {
-        let mut fields = Fields {
-            length: 0,
-            word: 0,
-            share: 0,
-            of: 0,
-        };
+        let mut fields = Fields::WHOLE;
         if self.below(3) > 0 {
             fields.length = self.byte_up_to(64);
             fields.word = self.timetable(fields.length);

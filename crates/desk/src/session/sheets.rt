@@ -2,7 +2,8 @@
 use crate::hex::{Hex, bytes};
 use crate::records::{Record, Records};
 use crate::session::Session;
-use commands::{Trouble, Usage, WHOLE};
+use commands::{Trouble, Usage};
+use grammar::Fields;
 
 // The length of the longest sheet that is written: its first record, 8 lines, and its last record.
 const MOST_BYTES: usize = 81;
@@ -38,7 +39,7 @@ impl Session {
             [word] => bytes(self.heap, word, Usage::Read)?,
             _ => return Err(Trouble::Usage(Usage::Read)),
         };
-        self.fields = WHOLE;
+        self.fields = Fields::WHOLE;
         self.cuts.clear();
         sheet::read(&mut self.roster, sheet.as_slice())?;
         self.remember(sheet.as_slice())?;
