@@ -19,11 +19,7 @@ pub(crate) fn next_deadline(lines: LineIter<'_>, after: u16, end: u16) -> Option
     ensures { Next (rows_left lines.entry) after «end» result }
 {
     let first = soonest(lines, after)?;
-    if first <= u32::from(end) {
-        Some(first as u16)
-    } else {
-        None
-    }
+    u16::try_from(first).ok().filter(|d| *d <= end)
 }
 
 // Every deadline up to an end, unless there are more than 256.

@@ -31,6 +31,7 @@ fn least_common(a: u16, b: u16) -> Option<u16>
 pub(crate) fn hyperperiod_of(lines: LineIter<'_>) -> Option<u16>
     ensures { MatchOption result (30000 < hyperperiod (rows_left lines.entry)) (λ h. (h ≡ hyperperiod (rows_left lines.entry)) × (h ≤ 30000)) }
 {
+    // A loop: `try_fold` asks for a function of any two numbers, and `least_common` is one of numbers in range.
     let mut h = 1;
     for line in lines {
         h = least_common(h, line.row().period)?;

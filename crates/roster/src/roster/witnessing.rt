@@ -24,9 +24,9 @@ impl<S: Supply> Roster<S> {
         ensures refusal_leaves_list { OnErr result (list.new ≡ list.old) }
         ensures no_schedule_meets_it { (calls : List Call) → Reached (S.meaning self.now.supply) calls (rows_in self.now) (watched_in self.now) → IfOk result (λ w. Legal (rows_in self.now) (take w.jobs list.new) × (MetIn (S.meaning self.now.supply) (rows_in self.now) (take w.jobs list.new) w.phase → ⊥)) }
     {
-        let Some(t) = self.verdict() else {
-            return Err(Refusal::by(Layer::Roster, Reason::NothingOverloaded));
-        };
+        let t = self
+            .verdict()
+            .ok_or(Refusal::by(Layer::Roster, Reason::NothingOverloaded))?;
         let number = number_released(&self.lines, t);
         let jobs = number as usize;
         if list.len() < jobs {
