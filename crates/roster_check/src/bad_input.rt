@@ -1,5 +1,5 @@
 // Bad input: how it is refused, and that it changes nothing.
-use crate::calls::{Cut, compare_call, compare_cut, enrolled};
+use crate::calls::{Called, enrolled};
 use lines::Row;
 use refusal::{Layer, Reason, Refusal};
 use roster::Call;
@@ -11,137 +11,181 @@ use trial_tools::{Tally, Untaken, refused, row, rows};
 static LINES: &[Row; 2] = rows![(8, 6, 2), (13, 12, 10)];
 
 // Certificates for it that are out of range, or just in range; 3, 232 spells 1,000 and 3, 233 spells 1,001.
-static CUTS: [Cut; 22] = [
-    Cut {
-        deadline: 25,
-        divisor: 0,
-        cites: &[0, 38, 0, 1, 0, 12, 0, 1],
+static CUTS: [Called; 22] = [
+    Called {
+        call: Call::Cut {
+            deadline: 25,
+            divisor: 0,
+            cites: &[0, 38, 0, 1, 0, 12, 0, 1],
+        },
         refused: refused!(CertificateOutOfRange),
     },
-    Cut {
-        deadline: 25,
-        divisor: 1000,
-        cites: &[0, 38, 0, 1, 0, 12, 0, 1],
+    Called {
+        call: Call::Cut {
+            deadline: 25,
+            divisor: 1000,
+            cites: &[0, 38, 0, 1, 0, 12, 0, 1],
+        },
         refused: refused!(CountNotCovered),
     },
-    Cut {
-        deadline: 25,
-        divisor: 1001,
-        cites: &[0, 38, 0, 1, 0, 12, 0, 1],
+    Called {
+        call: Call::Cut {
+            deadline: 25,
+            divisor: 1001,
+            cites: &[0, 38, 0, 1, 0, 12, 0, 1],
+        },
         refused: refused!(CertificateOutOfRange),
     },
-    Cut {
-        deadline: 25,
-        divisor: 65_535,
-        cites: &[0, 38, 0, 1, 0, 12, 0, 1],
+    Called {
+        call: Call::Cut {
+            deadline: 25,
+            divisor: 65_535,
+            cites: &[0, 38, 0, 1, 0, 12, 0, 1],
+        },
         refused: refused!(CertificateOutOfRange),
     },
-    Cut {
-        deadline: 25,
-        divisor: 2,
-        cites: &[0, 38, 0, 0, 0, 12, 0, 1],
+    Called {
+        call: Call::Cut {
+            deadline: 25,
+            divisor: 2,
+            cites: &[0, 38, 0, 0, 0, 12, 0, 1],
+        },
         refused: refused!(CertificateOutOfRange, 1),
     },
-    Cut {
-        deadline: 25,
-        divisor: 2,
-        cites: &[0, 38, 0, 1, 0, 12, 0, 0],
+    Called {
+        call: Call::Cut {
+            deadline: 25,
+            divisor: 2,
+            cites: &[0, 38, 0, 1, 0, 12, 0, 0],
+        },
         refused: refused!(CertificateOutOfRange, 2),
     },
-    Cut {
-        deadline: 25,
-        divisor: 2,
-        cites: &[0, 38, 3, 233, 0, 12, 0, 0],
+    Called {
+        call: Call::Cut {
+            deadline: 25,
+            divisor: 2,
+            cites: &[0, 38, 3, 233, 0, 12, 0, 0],
+        },
         refused: refused!(CertificateOutOfRange, 1),
     },
-    Cut {
-        deadline: 25,
-        divisor: 2,
-        cites: &[0, 38, 0, 1, 0, 12, 255, 255],
+    Called {
+        call: Call::Cut {
+            deadline: 25,
+            divisor: 2,
+            cites: &[0, 38, 0, 1, 0, 12, 255, 255],
+        },
         refused: refused!(CertificateOutOfRange, 2),
     },
-    Cut {
-        deadline: 25,
-        divisor: 2,
-        cites: &[0, 38, 3, 232, 0, 12, 3, 232],
+    Called {
+        call: Call::Cut {
+            deadline: 25,
+            divisor: 2,
+            cites: &[0, 38, 3, 232, 0, 12, 3, 232],
+        },
         refused: refused!(SupplyNotCovered),
     },
-    Cut {
-        deadline: 25,
-        divisor: 2,
-        cites: &[0, 12, 3, 232],
+    Called {
+        call: Call::Cut {
+            deadline: 25,
+            divisor: 2,
+            cites: &[0, 12, 3, 232],
+        },
         refused: refused!(SupplyNotCovered),
     },
-    Cut {
-        deadline: 25,
-        divisor: 0,
-        cites: &[],
+    Called {
+        call: Call::Cut {
+            deadline: 25,
+            divisor: 0,
+            cites: &[],
+        },
         refused: refused!(CertificateOutOfRange),
     },
-    Cut {
-        deadline: 0,
-        divisor: 2,
-        cites: &[0, 38, 0, 1, 0, 12, 0, 0],
+    Called {
+        call: Call::Cut {
+            deadline: 0,
+            divisor: 2,
+            cites: &[0, 38, 0, 1, 0, 12, 0, 0],
+        },
         refused: refused!(CertificateOutOfRange, 2),
     },
-    Cut {
-        deadline: 0,
-        divisor: 2,
-        cites: &[0, 38, 0, 1, 0, 12, 0, 1],
+    Called {
+        call: Call::Cut {
+            deadline: 0,
+            divisor: 2,
+            cites: &[0, 38, 0, 1, 0, 12, 0, 1],
+        },
         refused: refused!(NotWatched),
     },
-    Cut {
-        deadline: 65_535,
-        divisor: 2,
-        cites: &[0, 38, 0, 1, 0, 12, 0, 1],
+    Called {
+        call: Call::Cut {
+            deadline: 65_535,
+            divisor: 2,
+            cites: &[0, 38, 0, 1, 0, 12, 0, 1],
+        },
         refused: refused!(NotWatched),
     },
-    Cut {
-        deadline: 24,
-        divisor: 2,
-        cites: &[0, 24, 0, 1, 0, 12, 0, 1],
+    Called {
+        call: Call::Cut {
+            deadline: 24,
+            divisor: 2,
+            cites: &[0, 24, 0, 1, 0, 12, 0, 1],
+        },
         refused: refused!(NotWatched),
     },
-    Cut {
-        deadline: 25,
-        divisor: 2,
-        cites: &[0, 0, 0, 1, 0, 12, 0, 1],
+    Called {
+        call: Call::Cut {
+            deadline: 25,
+            divisor: 2,
+            cites: &[0, 0, 0, 1, 0, 12, 0, 1],
+        },
         refused: refused!(NotWatched, 1),
     },
-    Cut {
-        deadline: 25,
-        divisor: 2,
-        cites: &[0, 38, 0, 1, 255, 255, 0, 1],
+    Called {
+        call: Call::Cut {
+            deadline: 25,
+            divisor: 2,
+            cites: &[0, 38, 0, 1, 255, 255, 0, 1],
+        },
         refused: refused!(NotWatched, 2),
     },
-    Cut {
-        deadline: 25,
-        divisor: 2,
-        cites: &[0, 38, 0, 1, 0, 25, 0, 1],
+    Called {
+        call: Call::Cut {
+            deadline: 25,
+            divisor: 2,
+            cites: &[0, 38, 0, 1, 0, 25, 0, 1],
+        },
         refused: refused!(NotWatched, 2),
     },
-    Cut {
-        deadline: 25,
-        divisor: 2,
-        cites: &[0, 24, 0, 1, 0, 25, 0, 1],
+    Called {
+        call: Call::Cut {
+            deadline: 25,
+            divisor: 2,
+            cites: &[0, 24, 0, 1, 0, 25, 0, 1],
+        },
         refused: refused!(NotWatched, 1),
     },
-    Cut {
-        deadline: 25,
-        divisor: 2,
-        cites: &[0, 30, 0, 1, 0, 14, 0, 1],
+    Called {
+        call: Call::Cut {
+            deadline: 25,
+            divisor: 2,
+            cites: &[0, 30, 0, 1, 0, 14, 0, 1],
+        },
         refused: refused!(CountNotCovered, 1),
     },
-    Cut {
-        deadline: 25,
-        divisor: 2,
-        cites: &[0, 12, 0, 1],
+    Called {
+        call: Call::Cut {
+            deadline: 25,
+            divisor: 2,
+            cites: &[0, 12, 0, 1],
+        },
         refused: refused!(CountNotCovered),
     },
-    Cut {
-        deadline: 25,
-        divisor: 1000,
-        cites: &[0, 38, 1, 244, 0, 12, 1, 244],
+    Called {
+        call: Call::Cut {
+            deadline: 25,
+            divisor: 1000,
+            cites: &[0, 38, 1, 244, 0, 12, 1, 244],
+        },
         refused: None,
     },
 ];
@@ -210,47 +254,46 @@ static UNTAKEN: [Untaken; 12] = [
     },
 ];
 
-// A new cost for a line, and how it is refused, if it is.
-struct Cost {
-    line: u8,
-    cost: u16,
-    refused: Option<Refusal>,
-}
-
-static COSTS: [Cost; 7] = [
-    Cost {
-        line: 0,
-        cost: 0,
+// New costs for the lines.
+static COSTS: [Called; 7] = [
+    Called {
+        call: Call::Recost { line: 0, cost: 0 },
         refused: refused!(CostOutOfRange),
     },
-    Cost {
-        line: 0,
-        cost: 1,
+    Called {
+        call: Call::Recost { line: 0, cost: 1 },
         refused: None,
     },
-    Cost {
-        line: 1,
-        cost: 1000,
+    Called {
+        call: Call::Recost {
+            line: 1,
+            cost: 1000,
+        },
         refused: None,
     },
-    Cost {
-        line: 1,
-        cost: 1001,
+    Called {
+        call: Call::Recost {
+            line: 1,
+            cost: 1001,
+        },
         refused: refused!(CostOutOfRange),
     },
-    Cost {
-        line: 1,
-        cost: 65_535,
+    Called {
+        call: Call::Recost {
+            line: 1,
+            cost: 65_535,
+        },
         refused: refused!(CostOutOfRange),
     },
-    Cost {
-        line: 2,
-        cost: 0,
+    Called {
+        call: Call::Recost { line: 2, cost: 0 },
         refused: refused!(NoSuchLine, 2),
     },
-    Cost {
-        line: 255,
-        cost: 65_535,
+    Called {
+        call: Call::Recost {
+            line: 255,
+            cost: 65_535,
+        },
         refused: refused!(NoSuchLine, 255),
     },
 ];
@@ -280,8 +323,11 @@ static BYTES: &[u8; 40] =
 pub(crate) fn enrols() -> Tally {
     let mut tally = Tally::of("lines that are refused");
     for case in &UNTAKEN {
-        let mut roster = enrolled(Whole, case.before);
-        compare_call(&mut tally, &mut roster, Call::Enrol(case.row), case.refused);
+        let called = Called {
+            call: Call::Enrol(case.row),
+            refused: case.refused,
+        };
+        called.compare(&mut tally, &mut enrolled(Whole, case.before));
     }
     tally
 }
@@ -294,19 +340,20 @@ fn number_refused(number: u8) -> Option<Refusal> {
     refused!(NoSuchLine, u32::from(number))
 }
 
-// Every number of a line, recosted and struck.
+// A number of a line, recosted and struck.
+fn compare_number(tally: &mut Tally, line: u8) {
+    let refused = number_refused(line);
+    let mut roster = enrolled(Whole, LINES);
+    for call in [Call::Recost { line, cost: 5 }, Call::Strike(line)] {
+        Called { call, refused }.compare(tally, &mut roster);
+    }
+}
+
+// Every number of a line.
 pub(crate) fn numbers() -> Tally {
     let mut tally = Tally::of("numbers of lines, from 0 to 255");
     for line in 0..=255 {
-        let refused = number_refused(line);
-        let mut roster = enrolled(Whole, LINES);
-        compare_call(
-            &mut tally,
-            &mut roster,
-            Call::Recost { line, cost: 5 },
-            refused,
-        );
-        compare_call(&mut tally, &mut roster, Call::Strike(line), refused);
+        compare_number(&mut tally, line);
     }
     tally
 }
@@ -315,12 +362,7 @@ pub(crate) fn numbers() -> Tally {
 pub(crate) fn costs() -> Tally {
     let mut tally = Tally::of("costs at the edges");
     for case in &COSTS {
-        let mut roster = enrolled(Whole, LINES);
-        let call = Call::Recost {
-            line: case.line,
-            cost: case.cost,
-        };
-        compare_call(&mut tally, &mut roster, call, case.refused);
+        case.compare(&mut tally, &mut enrolled(Whole, LINES));
     }
     tally
 }
@@ -330,7 +372,7 @@ pub(crate) fn cuts() -> Tally {
     let mut tally = Tally::of("certificates at the edges");
     let mut roster = enrolled(Whole, LINES);
     for cut in &CUTS {
-        compare_cut(&mut tally, &mut roster, cut);
+        cut.compare(&mut tally, &mut roster);
     }
     tally
 }
@@ -351,13 +393,15 @@ fn length_refused(length: usize) -> Option<Refusal> {
 pub(crate) fn lengths() -> Tally {
     let mut tally = Tally::of("cites of 0 to 40 bytes");
     for length in 0..=BYTES.len() {
-        let mut roster = enrolled(Whole, LINES);
-        let call = Call::Cut {
-            deadline: 25,
-            divisor: 2,
-            cites: &BYTES[..length],
+        let called = Called {
+            call: Call::Cut {
+                deadline: 25,
+                divisor: 2,
+                cites: &BYTES[..length],
+            },
+            refused: length_refused(length),
         };
-        compare_call(&mut tally, &mut roster, call, length_refused(length));
+        called.compare(&mut tally, &mut enrolled(Whole, LINES));
     }
     tally
 }

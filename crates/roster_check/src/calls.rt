@@ -6,43 +6,23 @@ use roster::{Call, Roster};
 use supply::Supply;
 use trial_tools::Tally;
 
-// A certificate, and how it is refused, if it is. A cite is its deadline and its weight, two bytes each, the high byte first.
-pub(crate) struct Cut {
-    pub(crate) deadline: u16,
-    pub(crate) divisor: u16,
-    pub(crate) cites: &'static [u8],
+// A call, and how it is refused, if it is. In cites a deadline and its weight are two bytes each, the high byte first.
+#[derive(Clone, Copy)]
+pub(crate) struct Called {
+    pub(crate) call: Call<'static>,
     pub(crate) refused: Option<Refusal>,
 }
 
-impl Cut {
-    // The call that makes the cut.
-    fn call(&self) -> Call<'static> {
-        Call::Cut {
-            deadline: self.deadline,
-            divisor: self.divisor,
-            cites: self.cites,
+impl Called {
+    // Makes the call. One that should be refused should leave the lines, the watch list and the verdict as they were.
+    pub(crate) fn compare<S: Supply>(&self, tally: &mut Tally, roster: &mut Roster<S>) {
+        let before = Snapshot::of(roster);
+        let answer = roster.make(self.call);
+        tally.note(answer.err() == self.refused);
+        if self.refused.is_some() {
+            tally.note(before.is_of(roster));
         }
     }
-}
-
-// Makes a call. One that should be refused should leave the lines, the watch list and the verdict as they were.
-pub(crate) fn compare_call<S: Supply>(
-    tally: &mut Tally,
-    roster: &mut Roster<S>,
-    call: Call,
-    refused: Option<Refusal>,
-) {
-    let before = Snapshot::of(roster);
-    let answer = roster.make(call);
-    tally.note(answer.err() == refused);
-    if refused.is_some() {
-        tally.note(before.is_of(roster));
-    }
-}
-
-// Makes a cut.
-pub(crate) fn compare_cut<S: Supply>(tally: &mut Tally, roster: &mut Roster<S>, cut: &Cut) {
-    compare_call(tally, roster, cut.call(), cut.refused);
 }
 
 // A roster with some lines; one that is refused is not among them.

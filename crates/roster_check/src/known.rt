@@ -1,6 +1,7 @@
 // Rosters whose figures are known, worked out by hand or published.
-use crate::calls::{Cut, compare_cut, enrolled};
+use crate::calls::{Called, enrolled};
 use lines::{Lines, Row};
+use roster::Call;
 use std::iter::successors;
 use supply::Whole;
 use trial_tools::{Plan, Tally, Watched, refused, rows};
@@ -12,7 +13,7 @@ struct Case {
     lines: &'static [Row],
     rest: u16,
     watched: Watched,
-    cuts: &'static [Cut],
+    cuts: &'static [Called],
     left: Watched,
     verdict: Option<u16>,
 }
@@ -23,10 +24,12 @@ static CASES: [Case; 11] = [
         lines: rows![],
         rest: 1,
         watched: Watched::These(&[]),
-        cuts: &[Cut {
-            deadline: 1,
-            divisor: 1,
-            cites: &[0, 1, 0, 1],
+        cuts: &[Called {
+            call: Call::Cut {
+                deadline: 1,
+                divisor: 1,
+                cites: &[0, 1, 0, 1],
+            },
             refused: refused!(NotWatched),
         }],
         left: Watched::These(&[]),
@@ -64,10 +67,12 @@ static CASES: [Case; 11] = [
         lines: rows![(9, 7, 4), (15, 12, 7)],
         rest: 27,
         watched: Watched::These(&[7, 12, 16, 25, 27]),
-        cuts: &[Cut {
-            deadline: 25,
-            divisor: 1,
-            cites: &[0, 16, 0, 1, 0, 7, 0, 1],
+        cuts: &[Called {
+            call: Call::Cut {
+                deadline: 25,
+                divisor: 1,
+                cites: &[0, 16, 0, 1, 0, 7, 0, 1],
+            },
             refused: None,
         }],
         left: Watched::These(&[7, 12, 16, 27]),
@@ -80,22 +85,28 @@ static CASES: [Case; 11] = [
         rest: 62,
         watched: Watched::Many(18),
         cuts: &[
-            Cut {
-                deadline: 62,
-                divisor: 1,
-                cites: &[0, 40, 0, 1, 0, 12, 0, 1, 0, 10, 0, 1],
+            Called {
+                call: Call::Cut {
+                    deadline: 62,
+                    divisor: 1,
+                    cites: &[0, 40, 0, 1, 0, 12, 0, 1, 0, 10, 0, 1],
+                },
                 refused: None,
             },
-            Cut {
-                deadline: 19,
-                divisor: 1,
-                cites: &[0, 7, 0, 1, 0, 12, 0, 1],
+            Called {
+                call: Call::Cut {
+                    deadline: 19,
+                    divisor: 1,
+                    cites: &[0, 7, 0, 1, 0, 12, 0, 1],
+                },
                 refused: None,
             },
-            Cut {
-                deadline: 26,
-                divisor: 1,
-                cites: &[0, 7, 0, 1, 0, 19, 0, 1],
+            Called {
+                call: Call::Cut {
+                    deadline: 26,
+                    divisor: 1,
+                    cites: &[0, 7, 0, 1, 0, 19, 0, 1],
+                },
                 refused: refused!(NotWatched, 2),
             },
         ],
@@ -111,82 +122,108 @@ static CASES: [Case; 11] = [
             5, 7, 10, 12, 18, 19, 23, 26, 29, 33, 36, 40, 47, 49, 51, 54, 61, 62,
         ]),
         cuts: &[
-            Cut {
-                deadline: 18,
-                divisor: 1,
-                cites: &[0, 7, 0, 1, 0, 10, 0, 1],
+            Called {
+                call: Call::Cut {
+                    deadline: 18,
+                    divisor: 1,
+                    cites: &[0, 7, 0, 1, 0, 10, 0, 1],
+                },
                 refused: None,
             },
-            Cut {
-                deadline: 23,
-                divisor: 1,
-                cites: &[0, 10, 0, 1, 0, 12, 0, 1],
+            Called {
+                call: Call::Cut {
+                    deadline: 23,
+                    divisor: 1,
+                    cites: &[0, 10, 0, 1, 0, 12, 0, 1],
+                },
                 refused: None,
             },
-            Cut {
-                deadline: 26,
-                divisor: 1,
-                cites: &[0, 12, 0, 2],
+            Called {
+                call: Call::Cut {
+                    deadline: 26,
+                    divisor: 1,
+                    cites: &[0, 12, 0, 2],
+                },
                 refused: None,
             },
-            Cut {
-                deadline: 29,
-                divisor: 1,
-                cites: &[0, 7, 0, 1, 0, 10, 0, 1, 0, 12, 0, 1],
+            Called {
+                call: Call::Cut {
+                    deadline: 29,
+                    divisor: 1,
+                    cites: &[0, 7, 0, 1, 0, 10, 0, 1, 0, 12, 0, 1],
+                },
                 refused: None,
             },
-            Cut {
-                deadline: 33,
-                divisor: 1,
-                cites: &[0, 7, 0, 1, 0, 12, 0, 2],
+            Called {
+                call: Call::Cut {
+                    deadline: 33,
+                    divisor: 1,
+                    cites: &[0, 7, 0, 1, 0, 12, 0, 2],
+                },
                 refused: None,
             },
-            Cut {
-                deadline: 36,
-                divisor: 1,
-                cites: &[0, 10, 0, 1, 0, 12, 0, 2],
+            Called {
+                call: Call::Cut {
+                    deadline: 36,
+                    divisor: 1,
+                    cites: &[0, 10, 0, 1, 0, 12, 0, 2],
+                },
                 refused: None,
             },
-            Cut {
-                deadline: 47,
-                divisor: 1,
-                cites: &[0, 5, 0, 1, 0, 40, 0, 1],
+            Called {
+                call: Call::Cut {
+                    deadline: 47,
+                    divisor: 1,
+                    cites: &[0, 5, 0, 1, 0, 40, 0, 1],
+                },
                 refused: None,
             },
-            Cut {
-                deadline: 49,
-                divisor: 1,
-                cites: &[0, 10, 0, 1, 0, 12, 0, 3],
+            Called {
+                call: Call::Cut {
+                    deadline: 49,
+                    divisor: 1,
+                    cites: &[0, 10, 0, 1, 0, 12, 0, 3],
+                },
                 refused: None,
             },
-            Cut {
-                deadline: 51,
-                divisor: 1,
-                cites: &[0, 10, 0, 1, 0, 40, 0, 1],
+            Called {
+                call: Call::Cut {
+                    deadline: 51,
+                    divisor: 1,
+                    cites: &[0, 10, 0, 1, 0, 40, 0, 1],
+                },
                 refused: None,
             },
-            Cut {
-                deadline: 54,
-                divisor: 1,
-                cites: &[0, 12, 0, 1, 0, 40, 0, 1],
+            Called {
+                call: Call::Cut {
+                    deadline: 54,
+                    divisor: 1,
+                    cites: &[0, 12, 0, 1, 0, 40, 0, 1],
+                },
                 refused: None,
             },
-            Cut {
-                deadline: 61,
-                divisor: 1,
-                cites: &[0, 5, 0, 1, 0, 12, 0, 1, 0, 40, 0, 1],
+            Called {
+                call: Call::Cut {
+                    deadline: 61,
+                    divisor: 1,
+                    cites: &[0, 5, 0, 1, 0, 12, 0, 1, 0, 40, 0, 1],
+                },
                 refused: None,
             },
-            Cut {
-                deadline: 62,
-                divisor: 1,
-                cites: &[0, 10, 0, 1, 0, 12, 0, 1, 0, 40, 0, 1],
+            Called {
+                call: Call::Cut {
+                    deadline: 62,
+                    divisor: 1,
+                    cites: &[0, 10, 0, 1, 0, 12, 0, 1, 0, 40, 0, 1],
+                },
                 refused: None,
             },
-            Cut {
-                deadline: 19,
-                divisor: 1,
-                cites: &[0, 7, 0, 1, 0, 12, 0, 1],
+            Called {
+                call: Call::Cut {
+                    deadline: 19,
+                    divisor: 1,
+                    cites: &[0, 7, 0, 1, 0, 12, 0, 1],
+                },
                 refused: None,
             },
         ],
@@ -200,40 +237,52 @@ static CASES: [Case; 11] = [
         rest: 38,
         watched: Watched::These(&[6, 12, 14, 22, 25, 30, 38]),
         cuts: &[
-            Cut {
-                deadline: 25,
-                divisor: 1,
-                cites: &[0, 12, 0, 1, 0, 14, 0, 1],
+            Called {
+                call: Call::Cut {
+                    deadline: 25,
+                    divisor: 1,
+                    cites: &[0, 12, 0, 1, 0, 14, 0, 1],
+                },
                 refused: refused!(SupplyNotCovered),
             },
-            Cut {
-                deadline: 25,
-                divisor: 2,
-                cites: &[0, 38, 0, 1, 0, 12, 0, 1],
+            Called {
+                call: Call::Cut {
+                    deadline: 25,
+                    divisor: 2,
+                    cites: &[0, 38, 0, 1, 0, 12, 0, 1],
+                },
                 refused: None,
             },
-            Cut {
-                deadline: 25,
-                divisor: 2,
-                cites: &[0, 38, 0, 1, 0, 12, 0, 1],
+            Called {
+                call: Call::Cut {
+                    deadline: 25,
+                    divisor: 2,
+                    cites: &[0, 38, 0, 1, 0, 12, 0, 1],
+                },
                 refused: refused!(NotWatched),
             },
-            Cut {
-                deadline: 22,
-                divisor: 1,
-                cites: &[0, 14, 0, 1, 0, 25, 0, 1],
+            Called {
+                call: Call::Cut {
+                    deadline: 22,
+                    divisor: 1,
+                    cites: &[0, 14, 0, 1, 0, 25, 0, 1],
+                },
                 refused: refused!(NotWatched, 2),
             },
-            Cut {
-                deadline: 22,
-                divisor: 1,
-                cites: &[0, 14, 0, 1, 0, 6, 0, 1],
+            Called {
+                call: Call::Cut {
+                    deadline: 22,
+                    divisor: 1,
+                    cites: &[0, 14, 0, 1, 0, 6, 0, 1],
+                },
                 refused: None,
             },
-            Cut {
-                deadline: 30,
-                divisor: 1,
-                cites: &[0, 14, 0, 1, 0, 14, 0, 1],
+            Called {
+                call: Call::Cut {
+                    deadline: 30,
+                    divisor: 1,
+                    cites: &[0, 14, 0, 1, 0, 14, 0, 1],
+                },
                 refused: None,
             },
         ],
@@ -246,10 +295,12 @@ static CASES: [Case; 11] = [
         lines: rows![(8, 6, 2), (13, 12, 6)],
         rest: 38,
         watched: Watched::These(&[6, 12, 14, 22, 25, 30, 38]),
-        cuts: &[Cut {
-            deadline: 25,
-            divisor: 2,
-            cites: &[0, 38, 0, 1, 0, 12, 0, 1],
+        cuts: &[Called {
+            call: Call::Cut {
+                deadline: 25,
+                divisor: 2,
+                cites: &[0, 38, 0, 1, 0, 12, 0, 1],
+            },
             refused: refused!(SupplyNotCovered),
         }],
         left: Watched::These(&[6, 12, 14, 22, 25, 30, 38]),
@@ -296,7 +347,7 @@ impl Known {
         self.lists.note(case.watched.are(roster.watched()));
         self.verdicts.note(roster.verdict() == case.verdict);
         for cut in case.cuts {
-            compare_cut(&mut self.cuts, &mut roster, cut);
+            cut.compare(&mut self.cuts, &mut roster);
         }
         self.lists.note(case.left.are(roster.watched()));
         self.verdicts.note(roster.verdict() == case.verdict);

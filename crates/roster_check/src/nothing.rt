@@ -1,7 +1,8 @@
 ghost use Rattle.roster_check.specs.Nothing.{nothing};
 ghost use Rattle.std.proofs.Common.{rules};
 
-use crate::calls::{Cut, compare_cut, enrolled};
+use crate::calls::{Called, enrolled};
+use roster::Call;
 use run::{Job, Outcome};
 use supply::Supply;
 use trial_tools::{Tally, refused, rows};
@@ -33,23 +34,29 @@ impl Supply for Nothing {
 }
 
 // The cites ask for nothing, so only counts have to be covered; but 14 may not lean on 30, which leans on it.
-static CUTS: [Cut; 3] = [
-    Cut {
-        deadline: 25,
-        divisor: 1,
-        cites: &[0, 12, 0, 1, 0, 14, 0, 1],
+static CUTS: [Called; 3] = [
+    Called {
+        call: Call::Cut {
+            deadline: 25,
+            divisor: 1,
+            cites: &[0, 12, 0, 1, 0, 14, 0, 1],
+        },
         refused: None,
     },
-    Cut {
-        deadline: 30,
-        divisor: 1,
-        cites: &[0, 14, 0, 2],
+    Called {
+        call: Call::Cut {
+            deadline: 30,
+            divisor: 1,
+            cites: &[0, 14, 0, 2],
+        },
         refused: None,
     },
-    Cut {
-        deadline: 14,
-        divisor: 2,
-        cites: &[0, 30, 0, 1],
+    Called {
+        call: Call::Cut {
+            deadline: 14,
+            divisor: 2,
+            cites: &[0, 30, 0, 1],
+        },
         refused: refused!(NotWatched, 1),
     },
 ];
@@ -75,7 +82,7 @@ pub(crate) fn compared() -> Tally {
     tally.note(enrolled(Nothing, &[]).verdict().is_none());
     let mut roster = enrolled(Nothing, rows![(8, 6, 2), (13, 12, 10)]);
     for cut in &CUTS {
-        compare_cut(&mut tally, &mut roster, cut);
+        cut.compare(&mut tally, &mut roster);
     }
     tally.note(roster.watched().as_slice() == [6, 12, 14, 22, 38].as_slice());
     tally.note(roster.verdict() == Some(6));
