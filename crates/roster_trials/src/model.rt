@@ -36,7 +36,7 @@ impl Model {
         self.watched.retain(|d| *d != t);
     }
 
-    // Watches the deadlines up to the first rest point.
+    // Watches the deadlines up to the first rest point. (One comes by LAST, since random periods divide 120.)
     fn watch_all(&mut self) -> Result<(), AllocError> {
         let rows = self.rows.as_slice();
         let rest = (1..=LAST).find(|t| rests(rows, *t)).unwrap_or(LAST);
