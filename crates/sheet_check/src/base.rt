@@ -1,5 +1,5 @@
 // A good sheet with every kind of record, cut off at every length and changed at every byte.
-use crate::bench::Bench;
+use crate::comparison::Comparison;
 use crate::draft::Draft;
 use crate::plain::at;
 use grammar::Fields;
@@ -50,19 +50,19 @@ fn cut_short(length: usize) -> SheetRefusal {
 }
 
 // Cuts the sheet off at every length that is shorter than its own.
-pub(crate) fn compare_cut_off(bench: &mut Bench) -> Result<(), AllocError> {
+pub(crate) fn compare_cut_off(comparison: &mut Comparison) -> Result<(), AllocError> {
     let mut group = Tally::of("a sheet cut off at every length");
-    let draft = sheet(bench.heap)?;
+    let draft = sheet(comparison.heap)?;
     for length in 0..draft.as_slice().len() {
         let front = draft.as_slice().get(0..length).unwrap_or(&[]);
-        bench.compare_refused(&mut group, front, cut_short(length))?;
+        comparison.compare_refused(&mut group, front, cut_short(length))?;
     }
-    bench.done.extend([group])
+    comparison.done.extend([group])
 }
 
 // Changes the byte at a place of the sheet to 0, to 255, and to its two neighbours.
 fn compare_place(
-    bench: &mut Bench,
+    comparison: &mut Comparison,
     group: &mut Tally,
     draft: &mut Draft,
     place: usize,
@@ -70,19 +70,19 @@ fn compare_place(
     let byte = draft.as_slice().get(place).copied().unwrap_or(0);
     for other in &[0, 255, byte.wrapping_add(1), byte.wrapping_sub(1)] {
         draft.change(place, *other);
-        bench.compare(group, draft.as_slice())?;
+        comparison.compare(group, draft.as_slice())?;
     }
     draft.change(place, byte);
     Ok(())
 }
 
 // Changes every byte of the sheet.
-pub(crate) fn compare_changed(bench: &mut Bench) -> Result<(), AllocError> {
+pub(crate) fn compare_changed(comparison: &mut Comparison) -> Result<(), AllocError> {
     let mut group = Tally::of("a sheet changed at every byte");
-    let mut draft = sheet(bench.heap)?;
+    let mut draft = sheet(comparison.heap)?;
     for place in 0..draft.as_slice().len() {
-        compare_place(bench, &mut group, &mut draft, place)?;
+        compare_place(comparison, &mut group, &mut draft, place)?;
     }
-    bench.compare(&mut group, draft.as_slice())?;
-    bench.done.extend([group])
+    comparison.compare(&mut group, draft.as_slice())?;
+    comparison.done.extend([group])
 }

@@ -29,6 +29,11 @@ impl Draft {
         self.bytes.extend_from_slice(bytes)
     }
 
+    // Zeros behind the bytes, up to a length.
+    pub(crate) fn fill(&mut self, length: usize) -> Result<(), AllocError> {
+        self.bytes.resize(length, 0)
+    }
+
     // Numbers of two bytes each.
     fn numbers(&mut self, numbers: &[u16]) -> Result<(), AllocError> {
         for number in numbers {

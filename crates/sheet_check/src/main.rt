@@ -4,7 +4,7 @@
 
 mod alike;
 mod base;
-mod bench;
+mod comparison;
 mod draft;
 mod edges;
 mod known;
@@ -18,27 +18,27 @@ mod sheets;
 mod supplies;
 mod told;
 
-use crate::bench::Bench;
+use crate::comparison::Comparison;
 use std::alloc::AllocError;
 use trial_tools::print;
 
 // Compares every group.
-fn compare(bench: &mut Bench) -> Result<(), AllocError> {
-    named::compare(bench)?;
-    known::compare(bench)?;
-    edges::compare_lengths(bench)?;
-    edges::compare_cites(bench)?;
-    base::compare_cut_off(bench)?;
-    base::compare_changed(bench)?;
-    sheets::compare(bench)?;
-    bench.finish()
+fn compare(comparison: &mut Comparison) -> Result<(), AllocError> {
+    named::compare(comparison)?;
+    known::compare(comparison)?;
+    edges::compare_lengths(comparison)?;
+    edges::compare_cites(comparison)?;
+    base::compare_cut_off(comparison)?;
+    base::compare_changed(comparison)?;
+    sheets::compare(comparison)?;
+    comparison.finish()
 }
 
 // Prints for each group how many answers were compared and how many differ.
 fn report(rt: &HostRuntime) -> anyhow::Result<()> {
-    let mut bench = Bench::new(rt.alloc());
-    compare(&mut bench)?;
-    print(rt, bench.done.as_slice())?;
+    let mut comparison = Comparison::new(rt.alloc());
+    compare(&mut comparison)?;
+    print(rt, comparison.done.as_slice())?;
     Ok(())
 }
 

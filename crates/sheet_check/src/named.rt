@@ -1,6 +1,6 @@
 // The supplies that fields name, each pair of a timetable and a share.
 use crate::alike::same_supply;
-use crate::bench::Bench;
+use crate::comparison::Comparison;
 use crate::lent::BEFORE;
 use crate::supplies;
 use grammar::Fields;
@@ -61,21 +61,37 @@ fn is_checked(fields: Fields) -> bool {
     answer == Err(expected) && list == [BEFORE; 16]
 }
 
-// Compares every pair.
-pub(crate) fn compare(bench: &mut Bench) -> Result<(), AllocError> {
-    let mut named = Tally::of("supplies that fields name");
-    let mut checked = Tally::of("fields checked before the list's length");
-    for (length, word) in &TIMETABLES {
+// The groups of fields.
+#[derive(Clone, Copy)]
+struct Pairs {
+    named: Tally,
+    checked: Tally,
+}
+
+impl Pairs {
+    // Compares a timetable with each share.
+    fn compare_timetable(&mut self, length: u8, word: u64) {
         for (share, of) in &SHARES {
             let fields = Fields {
-                length: *length,
-                word: *word,
+                length,
+                word,
                 share: *share,
                 of: *of,
             };
-            named.note(is_named(fields));
-            checked.note(is_checked(fields));
+            self.named.note(is_named(fields));
+            self.checked.note(is_checked(fields));
         }
     }
-    bench.done.extend([named, checked])
+}
+
+// Compares every pair.
+pub(crate) fn compare(comparison: &mut Comparison) -> Result<(), AllocError> {
+    let mut pairs = Pairs {
+        named: Tally::of("supplies that fields name"),
+        checked: Tally::of("fields checked before the list's length"),
+    };
+    for (length, word) in &TIMETABLES {
+        pairs.compare_timetable(*length, *word);
+    }
+    comparison.done.extend([pairs.named, pairs.checked])
 }

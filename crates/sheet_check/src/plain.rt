@@ -32,10 +32,10 @@ fn two(record: &[u8], at: usize) -> u16 {
 
 // The fields of a first record.
 pub(crate) fn fields(record: &[u8]) -> Fields {
-    let digits = record.get(3..11).unwrap_or(&[]);
-    let word = digits.iter().fold(0u64, |word, digit| {
-        word.wrapping_mul(256).wrapping_add(u64::from(*digit))
-    });
+    let word = record
+        .get(3..)
+        .and_then(|rest| rest.first_chunk::<8>())
+        .map_or(0, |digits| u64::from_be_bytes(*digits));
     Fields {
         length: byte(record, 2),
         word,
@@ -53,7 +53,7 @@ fn row(record: &[u8]) -> Row {
     }
 }
 
-// Judges a record behind so many others.
+// Judges a record behind so many others. A match: a sheet has no kinds but these four, and each is judged by a call of its own.
 fn judge(
     roster: &mut Roster<Named>,
     kind: Kind,
@@ -84,8 +84,8 @@ fn judge(
 pub(crate) fn at(refusal: Refusal, record: usize, byte: usize) -> SheetRefusal {
     SheetRefusal {
         refusal,
-        record: record.min(65_535) as u32,
-        byte: byte.min(65_535) as u32,
+        record: u32::try_from(record).unwrap_or(u32::MAX),
+        byte: u32::try_from(byte).unwrap_or(u32::MAX),
     }
 }
 

@@ -1,5 +1,5 @@
 // Random sheets: good ones, the same damaged or cut off, and ones of odd records in any order.
-use crate::bench::Bench;
+use crate::comparison::Comparison;
 use crate::draft::Draft;
 use crate::random::Random;
 use lines::{Lines, WatchList};
@@ -109,25 +109,33 @@ struct Sheets {
 
 impl Sheets {
     // Compares a good sheet, the front of it, and the sheet with damaged bytes.
-    fn compare_good(&mut self, bench: &mut Bench, random: &mut Random) -> Result<(), AllocError> {
-        let mut draft = good(bench.heap, random)?;
-        bench.compare(&mut self.good, draft.as_slice())?;
+    fn compare_good(
+        &mut self,
+        comparison: &mut Comparison,
+        random: &mut Random,
+    ) -> Result<(), AllocError> {
+        let mut draft = good(comparison.heap, random)?;
+        comparison.compare(&mut self.good, draft.as_slice())?;
         let length = usize::from(random.below(100));
         let front = draft.as_slice().get(0..length).unwrap_or(&[]);
-        bench.compare(&mut self.cut_off, front)?;
+        comparison.compare(&mut self.cut_off, front)?;
         damage(&mut draft, random);
-        bench.compare(&mut self.damaged, draft.as_slice())
+        comparison.compare(&mut self.damaged, draft.as_slice())
     }
 
     // Compares a sheet of odd records.
-    fn compare_odd(&mut self, bench: &mut Bench, random: &mut Random) -> Result<(), AllocError> {
-        let draft = odd(bench.heap, random)?;
-        bench.compare(&mut self.odd, draft.as_slice())
+    fn compare_odd(
+        &mut self,
+        comparison: &mut Comparison,
+        random: &mut Random,
+    ) -> Result<(), AllocError> {
+        let draft = odd(comparison.heap, random)?;
+        comparison.compare(&mut self.odd, draft.as_slice())
     }
 }
 
 // Compares them all.
-pub(crate) fn compare(bench: &mut Bench) -> Result<(), AllocError> {
+pub(crate) fn compare(comparison: &mut Comparison) -> Result<(), AllocError> {
     let mut random = Random::new(1);
     let mut sheets = Sheets {
         good: Tally::of("random sheets"),
@@ -136,10 +144,10 @@ pub(crate) fn compare(bench: &mut Bench) -> Result<(), AllocError> {
         odd: Tally::of("random records in any order"),
     };
     for _ in 0..SHEETS {
-        sheets.compare_good(bench, &mut random)?;
-        sheets.compare_odd(bench, &mut random)?;
+        sheets.compare_good(comparison, &mut random)?;
+        sheets.compare_odd(comparison, &mut random)?;
     }
-    bench
+    comparison
         .done
         .extend([sheets.good, sheets.damaged, sheets.cut_off, sheets.odd])
 }

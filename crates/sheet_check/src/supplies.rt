@@ -35,7 +35,5 @@ pub(crate) fn named(fields: Fields) -> Result<Named, Refusal> {
     if fields.share == 0 || fields.share > fields.of || fields.of > 64 {
         return Err(Refusal::by(Layer::Supply, Reason::ShareUnlawful));
     }
-    Share::new(below, fields.share, fields.of)
-        .map(Named::Shared)
-        .map_err(|back| back.refusal)
+    Ok(Named::Shared(Share::new(below, fields.share, fields.of)?))
 }

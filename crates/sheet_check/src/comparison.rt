@@ -4,19 +4,46 @@ use crate::outputs::Outputs;
 use crate::plain::Reading;
 use crate::{plain, supplies};
 use grammar::Fields;
+use refusal::Reason;
 use roster::Roster;
 use sheet::SheetRefusal;
 use std::alloc::{AllocError, Global};
-use std::collections::BTreeSet;
 use supply::Named;
 use trial_tools::{Tally, row};
 
-// The numbers of the reasons for which a sheet can be refused, as the table of refusals has them.
-static NUMBERS: [u8; 17] = [1, 2, 3, 4, 5, 6, 8, 9, 10, 11, 16, 17, 18, 19, 20, 21, 22];
+// The reasons for which a sheet can be refused.
+static REASONS: [Reason; 17] = [
+    Reason::LinesFull,
+    Reason::PeriodOutOfRange,
+    Reason::DeadlineOutOfRange,
+    Reason::CostOutOfRange,
+    Reason::HyperperiodTooLong,
+    Reason::WatchListTooLong,
+    Reason::NotWatched,
+    Reason::CertificateOutOfRange,
+    Reason::CountNotCovered,
+    Reason::SupplyNotCovered,
+    Reason::TooLarge,
+    Reason::TimetableUnlawful,
+    Reason::ShareUnlawful,
+    Reason::SheetCutShort,
+    Reason::MarkMisplaced,
+    Reason::ClosingCountWrong,
+    Reason::BytesAfterEnd,
+];
+
+// The other reasons, for which none can.
+static OTHERS: [Reason; 5] = [
+    Reason::NoSuchLine,
+    Reason::NothingOverloaded,
+    Reason::ListTooShort,
+    Reason::JobOutOfRange,
+    Reason::JobTooSoon,
+];
 
 // What is compared of every sheet, whichever group it is of, and the groups that are done.
 #[derive(Drop)]
-pub(crate) struct Bench {
+pub(crate) struct Comparison {
     pub(crate) heap: Global,
     pub(crate) done: Vec<Tally>,
     accepted: Tally,
@@ -24,13 +51,13 @@ pub(crate) struct Bench {
     refused: Tally,
     reread: Tally,
     outputs: Outputs,
-    met: BTreeSet<u8>,
+    met: Vec<Reason>,
 }
 
-impl Bench {
+impl Comparison {
     // Nothing is compared yet.
-    pub(crate) fn new(heap: Global) -> Bench {
-        Bench {
+    pub(crate) fn new(heap: Global) -> Comparison {
+        Comparison {
             heap,
             done: Vec::new(heap),
             accepted: Tally::of("accepted sheets of all these"),
@@ -38,7 +65,7 @@ impl Bench {
             refused: Tally::of("refused sheets of all these"),
             reread: Tally::of("sheets read in place of other lines"),
             outputs: Outputs::new(),
-            met: BTreeSet::new(heap),
+            met: Vec::new(heap),
         }
     }
 
@@ -54,7 +81,7 @@ impl Bench {
                 self.note_accepted(roster, same);
                 self.outputs.compare_written(self.heap, bytes, roster)
             }
-            Err(refused) => { self.note_refused(refused.refusal.reason.number(), same) }
+            Err(refused) => self.note_refused(refused.refusal.reason, same),
         }
     }
 
@@ -78,25 +105,33 @@ impl Bench {
         }
     }
 
-    // Takes down a sheet that should be refused for the reason with a number.
-    fn note_refused(&mut self, number: u8, same: bool) -> Result<(), AllocError> {
+    // Takes down a sheet that should be refused for a reason.
+    fn note_refused(&mut self, reason: Reason, same: bool) -> Result<(), AllocError> {
         self.refused.note(same);
-        self.met.insert(number)?;
+        if !self.met.contains(&reason) {
+            self.met.push(reason)?;
+        }
         Ok(())
     }
 
-    // Whether each number of a reason was met, or not, as it should be.
-    fn numbers(&self) -> Tally {
-        let mut tally = Tally::of("numbers of refusals met");
-        for number in 1..=22u8 {
-            tally.note(self.met.contains(&number) == NUMBERS.contains(&number));
+    // Takes down in a tally whether each of some reasons was met, or not, as it should be.
+    fn note_met(&self, tally: &mut Tally, reasons: &[Reason], expected: bool) {
+        for reason in reasons {
+            tally.note(self.met.contains(reason) == expected);
         }
+    }
+
+    // Whether each reason was met, or not, as it should be.
+    fn reasons(&self) -> Tally {
+        let mut tally = Tally::of("numbers of refusals met");
+        self.note_met(&mut tally, &REASONS, true);
+        self.note_met(&mut tally, &OTHERS, false);
         tally
     }
 
     // Ends the list of groups with those of all sheets together.
     pub(crate) fn finish(&mut self) -> Result<(), AllocError> {
-        let numbers = self.numbers();
+        let reasons = self.reasons();
         self.done.extend([
             self.accepted,
             self.certified,
@@ -106,7 +141,7 @@ impl Bench {
             self.outputs.written,
             self.outputs.read_back,
             self.outputs.rewritten,
-            numbers,
+            reasons,
         ])
     }
 }
