@@ -15,6 +15,17 @@ pub(crate) enum Record<'a> {
     Cut(CutRecord<'a>),
 }
 
+// The fields that the bytes behind the mark of a first record spell.
+fn fields(record: [u8; 11]) -> Fields {
+    let [length, w7, w6, w5, w4, w3, w2, w1, w0, share, of] = record;
+    Fields {
+        length,
+        word: u64::from_be_bytes([w7, w6, w5, w4, w3, w2, w1, w0]),
+        share,
+        of,
+    }
+}
+
 // The cite that four bytes spell.
 fn cite(bytes: &[u8]) -> Option<Cite> {
     let [d1, d0, w1, w0] = bytes else {
@@ -59,29 +70,10 @@ impl<'a> Iterator for Records<'a> {
 
     fn next(&mut self) -> Option<Record<'a>> {
         match self.rest {
-            [
-                b'S',
-                b'U',
-                length,
-                w7,
-                w6,
-                w5,
-                w4,
-                w3,
-                w2,
-                w1,
-                w0,
-                share,
-                of,
-                rest @ ..,
-            ] => {
+            [b'S', b'U', rest @ ..] => {
+                let (record, rest) = rest.split_first_chunk::<11>()?;
                 self.rest = rest;
-                Some(Record::Supply(Fields {
-                    length: *length,
-                    word: u64::from_be_bytes([*w7, *w6, *w5, *w4, *w3, *w2, *w1, *w0]),
-                    share: *share,
-                    of: *of,
-                }))
+                Some(Record::Supply(fields(*record)))
             }
             [b'L', b'N', _, _, _, _, _, _, rest @ ..] => {
                 self.rest = rest;
