@@ -42,7 +42,8 @@ pub fn ask<S: Supply>(heap: Global, supply: &S, words: &[&str]) -> Result<String
     }
 }
 
-// What is answered where a supply was opened.
+// What is answered where a supply was opened. It only prints a figure of the supply, as `ask` does
+// where it has read the words, and neither promises how that is written.
 pub fn opened<S: Supply>(heap: Global, supply: &S) -> Result<String, AllocError> {
     let phases = supply.phases();
     format!(in heap; "opened phases {phases}\n")

@@ -9,7 +9,7 @@ pub trait Obey {
     fn obey(&mut self, words: &[&str]) -> Result<String, Trouble>;
 }
 
-// Answers each line as it comes, to the end of the input.
+// Answers each line as it comes, to the end of the input. It only hands the lines on and prints, and promises nothing of it.
 pub fn converse<R: Input + Print + AllocGlobal, S: Obey>(
     rt: &R,
     session: &mut S,

@@ -34,7 +34,8 @@ fn bottom(words: &[&str]) -> Result<Fields, Trouble> {
     }
 }
 
-// The fields of the supply that is named: a bottom, alone or with a share of it.
+// The fields of the supply that is named: a bottom, alone or with a share of it. It only reads the
+// notation: which supply the fields are is the promise of `supply_of`.
 pub fn named(words: &[&str]) -> Result<Fields, Trouble> {
     match words {
         [below @ .., "share", s, f] => shared(bottom(below)?, s, f),
