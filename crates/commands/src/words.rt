@@ -18,7 +18,8 @@ where
     word.parse::<N>().map_err(|_| Trouble::Usage(usage))
 }
 
-// What a single word can stand for. It is no `FromStr`: the types stand in crates of their own, and the notation is the console's.
+// What a single word can stand for. (A `FromStr` would be no plainer: it would put the console's notation into the crates of lines
+// and jobs.)
 pub trait Typed: Sized {
     // What a word stands for, if it is written as it should be.
     fn typed(word: &str) -> Option<Self>;

@@ -58,7 +58,7 @@ static CASES: [Case; 7] = [
     },
 ];
 
-// Lines, an instant, and the count of each line at it.
+// Lines, an instant, and the count of each line at it. (Two lists, since the lines are taken as one.)
 static COUNTED: &[Row; 3] = rows![(7, 5, 1), (11, 7, 1), (13, 10, 1)];
 
 const COUNTED_AT: u16 = 40;

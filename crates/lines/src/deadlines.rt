@@ -28,7 +28,7 @@ pub(crate) fn deadlines_to(lines: LineIter<'_>, end: u16) -> Option<WatchList>
 {
     let mut list = WatchList::none();
     let mut at = 0;
-    // A loop: each step starts at the last answer. `successors` would put the step in a closure and its end in a clause.
+    // A loop: each step starts at the last answer, and `successors` would say that in no fewer words.
     while let Some(d) = next_deadline(lines, at, end) {
         list.push(d).ok()?;
         at = d;

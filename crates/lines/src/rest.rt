@@ -31,7 +31,7 @@ fn least_common(a: u16, b: u16) -> Option<u16>
 pub(crate) fn hyperperiod_of(lines: LineIter<'_>) -> Option<u16>
     ensures { MatchOption result (30000 < hyperperiod (rows_left lines.entry)) (λ h. (h ≡ hyperperiod (rows_left lines.entry)) × (h ≤ 30000)) }
 {
-    // A loop: `try_fold` asks for a function of any two numbers, and `least_common` is one of numbers in range.
+    // A loop: `least_common` asks for numbers in range, and no lemma tells that of each step of a `try_fold`.
     let mut h = 1;
     for line in lines {
         h = least_common(h, line.row().period)?;
@@ -44,7 +44,8 @@ fn next_rest(lines: LineIter<'_>, t: u16) -> Option<u16>
     requires { t ≤ 30000 }
     ensures { MatchOption result (every (resting t) (rows_left lines.entry) ≡ true) (λ u. (t < u) × ((k : ℕ) → t ≤ k → k < u → every (resting k) (rows_left lines.entry) ≡ false)) }
 {
-    // A loop: the library tells what `find_map` answers by the calls that ran, and no lemma makes that a fact about each line.
+    // A loop: the proof of a `find_map` didn't close. The library tells what it answers by the calls that ran, and no lemma makes
+    // that a fact about each line.
     for line in lines {
         if let Some(later) = line.next_rest(t) {
             return Some(later);
@@ -58,7 +59,7 @@ pub(crate) fn first_rest_of(lines: LineIter<'_>) -> u16
     requires { hyperperiod (rows_left lines) ≤ 30000 }
     ensures { (result ≡ first_rest (rows_left lines.entry)) × (result ≤ 30000) }
 {
-    // A loop: each step starts at the last answer. `successors` would put the step in a closure and its end in a clause.
+    // A loop: each step starts at the last answer, and `successors` would say that in no fewer words.
     let mut t = 1;
     while let Some(later) = next_rest(lines, t) {
         t = later;

@@ -9,6 +9,9 @@ ghost use Rattle.std.specs.Option.{option_to_list};
 use lines::{Line, Lines};
 use run::Job;
 
+// (Lines, a release and an end are handed on as they are: the release is another in each step, and one struct for three calls is
+// no plainer.)
+
 // How many there are.
 pub(crate) fn number_released(lines: &Lines, t: u16) -> u32
     ensures { result ≡ length (witness (rows_of lines.now) t) }
@@ -54,7 +57,7 @@ fn next_release(lines: &Lines, after: u16, end: u16) -> u16
     ensures bound { result ≤ «end» }
     ensures none_between { (k : ℕ) → after < k → k < result → some (divides k) (rows_of lines.now) ≡ false }
 {
-    // A loop: `map(..).fold(end, min)` says the same in as many words, and its proof would restate the loop's facts over a list.
+    // A loop: `map(..).fold(end, min)` says the same in as many words.
     let mut first = u32::from(end);
     for line in lines.iter() {
         let period = line.row().period;

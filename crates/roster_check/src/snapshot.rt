@@ -11,8 +11,8 @@ pub(crate) struct Snapshot {
     verdict: Option<u16>,
 }
 
-// Whether two sets have the same lines by the same numbers. (Two programs test this in a line each; a shared test would owe a
-// promise that neither needs.)
+// Whether two sets have the same lines by the same numbers. (Two programs test this in a line each, which a call would not
+// shorten.)
 fn same_lines(some: &Lines, others: &Lines) -> bool {
     let rows = others.iter().map(|line| line.row());
     some.iter().map(|line| line.row()).eq(rows)

@@ -7,7 +7,7 @@ pub(crate) const LAST: u16 = 250;
 // A window begins at each of the first slots of a phase, so many of them.
 const STARTS: usize = 64;
 
-// How many of the first n slots are given, for each n.
+// How many of the first n slots are given, for each n. (An array, as below.)
 type Played = [u16; 315];
 
 // A supply by its numbers, and what any n slots in a row are sure to hold, for each n. (Arrays: there is one figure for each

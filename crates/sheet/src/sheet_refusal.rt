@@ -3,7 +3,8 @@ ghost use Rattle.std.specs.Prelude.{◌≡◌};
 
 use refusal::Refusal;
 
-// Why a sheet is turned down, and where: the record, from 1, and the byte at which it begins, from 0.
+// Why a sheet is turned down, and where: the record, from 1, and the byte at which it begins, from 0. (Where it is about no
+// record both are 0, as the report and C code have them, and no None.)
 #[derive(Clone, Copy, PartialEq, Eq, Debug)]
 pub struct SheetRefusal {
     pub refusal: Refusal,

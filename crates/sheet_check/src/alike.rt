@@ -12,8 +12,8 @@ pub(crate) fn same_supply(one: &Named, other: &Named) -> bool {
     SLOTS.iter().all(|n| one.least(*n) == other.least(*n)) && one.phases() == other.phases()
 }
 
-// Whether two sets of lines are the same, line by line. (Two programs test this in a line each; a shared test would owe a
-// promise that neither needs.)
+// Whether two sets of lines are the same, line by line. (Two programs test this in a line each, which a call would not
+// shorten.)
 pub(crate) fn same_lines(one: &Lines, other: &Lines) -> bool {
     let rows = other.iter().map(|line| line.row());
     one.iter().map(|line| line.row()).eq(rows)

@@ -8,6 +8,7 @@ use refusal::Reason;
 use roster::Roster;
 use sheet::SheetRefusal;
 use std::alloc::{AllocError, Global};
+use std::collections::BTreeSet;
 use supply::Named;
 use trial_tools::{Tally, row};
 
@@ -51,7 +52,7 @@ pub(crate) struct Comparison {
     refused: Tally,
     reread: Tally,
     outputs: Outputs,
-    met: Vec<Reason>,
+    met: BTreeSet<Reason>,
 }
 
 impl Comparison {
@@ -65,7 +66,7 @@ impl Comparison {
             refused: Tally::of("refused sheets of all these"),
             reread: Tally::of("sheets read in place of other lines"),
             outputs: Outputs::new(),
-            met: Vec::new(heap),
+            met: BTreeSet::new(heap),
         }
     }
 
@@ -108,9 +109,7 @@ impl Comparison {
     // Takes down a sheet that should be refused for a reason.
     fn note_refused(&mut self, reason: Reason, same: bool) -> Result<(), AllocError> {
         self.refused.note(same);
-        if !self.met.contains(&reason) {
-            self.met.push(reason)?;
-        }
+        self.met.insert(reason)?;
         Ok(())
     }
 

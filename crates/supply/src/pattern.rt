@@ -37,8 +37,8 @@ impl Pattern {
         x / turn * given + (x % turn).min(given)
     }
 
-    // How many of x slots are taken, from a slot of the first turn on. A timetable counts its given slots so, too: the two share
-    // one line, and a trait for it would need a law of its own.
+    // How many of x slots are taken, from a slot of the first turn on. A timetable counts its given slots so, too: one line each,
+    // and a trait over it is longer than the two.
     pub(crate) fn taken_from(&self, start: u32, x: u16) -> u16
         requires { start < self.now.of }
         ensures { result ≡ from (pattern self.now.given self.now.of) start x }

@@ -1,6 +1,7 @@
 use supply::{Bottom, Named, Share, Timetable, Whole};
 
-// The numbers of a supply: a row of slots that repeats, written as a number, and a share over it of so many slots in each turn.
+// The numbers of a supply: a row of slots that repeats, written as a number, and a share over it of so many slots in each turn. (The
+// whole processor is a row of one slot, and no share is one slot in one, so that a slow count needs no kinds.)
 #[derive(Clone, Copy)]
 pub struct Plan {
     pub length: u8,

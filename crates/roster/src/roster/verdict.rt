@@ -40,7 +40,7 @@ impl<S: Supply> Roster<S> {
     fn first_overload(&self, last: u16) -> Option<u16>
         ensures { MatchOption result ((t : ℕ) → t ≤ last → Within (S.meaning self.now.supply) (rows_in self.now) t) (λ t. Overloaded (S.meaning self.now.supply) (rows_in self.now) t) }
     {
-        // A loop: each step starts at the last answer. `successors` would put the step in a closure and its end in a clause.
+        // A loop: each step starts at the last answer, and `successors` would say that in no fewer words.
         let mut at = 0;
         while let Some(d) = self.lines.next_deadline(at, last) {
             if self.exceeds(d) {
