@@ -5,46 +5,15 @@ use lines::Row;
 use run::Job;
 use std::alloc::{AllocError, Global};
 use supply::{Supply, Timetable, Whole};
-
-fn row(period: u16, deadline: u16, cost: u16) -> Row {
-    Row {
-        period,
-        deadline,
-        cost,
-    }
-}
-
-fn job(line: u8, release: u16, cost: u16) -> Job {
-    Job {
-        line,
-        release,
-        cost,
-    }
-}
+use trial_tools::{job, row, rows};
 
 // The three lines of most cases.
-const ROWS: [Row; 3] = [
-    Row {
-        period: 7,
-        deadline: 5,
-        cost: 3,
-    },
-    Row {
-        period: 11,
-        deadline: 7,
-        cost: 3,
-    },
-    Row {
-        period: 13,
-        deadline: 10,
-        cost: 4,
-    },
-];
+static ROWS: &[Row] = rows![(7, 5, 3), (11, 7, 3), (13, 10, 4)];
 
 // Jobs of the three lines on the whole processor.
 fn on_whole<'a>(jobs: &'a [Job], slots: usize) -> Case<'a, Whole> {
     Case {
-        rows: &ROWS,
+        rows: ROWS,
         jobs,
         supply: &Whole,
         phase: 0,
@@ -55,7 +24,7 @@ fn on_whole<'a>(jobs: &'a [Job], slots: usize) -> Case<'a, Whole> {
 // A list of jobs of line 0 with a cost of 1, so far apart.
 fn regular(heap: Global, many: u16, apart: u16) -> Result<Vec<Job>, AllocError> {
     (0..many)
-        .map(|k| job(0, k.wrapping_mul(apart), 1))
+        .map(|k| job!(0, k.wrapping_mul(apart), 1))
         .collect(heap)
 }
 
@@ -76,7 +45,7 @@ fn shown<S: Supply>(rt: &HostRuntime, name: &str, case: &Case<S>) -> anyhow::Res
 // Lists on every second slot, those of odd number in phase 0 and of even number in phase 1.
 fn on_part(rt: &HostRuntime) -> anyhow::Result<()> {
     let timetable = Timetable::new(2, 2).map_err(|_| anyhow!("every second slot is a timetable"))?;
-    let jobs = &[job(0, 1, 2), job(2, 1, 2)];
+    let jobs = &[job!(0, 1, 2), job!(2, 1, 2)];
     let mut case = on_whole(jobs, 13).on(&timetable);
     shown(rt, "every second slot", &case)?;
     case.phase = u32::MAX;
@@ -85,11 +54,11 @@ fn on_part(rt: &HostRuntime) -> anyhow::Result<()> {
 
 // The jobs of three lines from 0 on with deadlines up to 12, and other lists that are taken.
 fn taken(rt: &HostRuntime) -> anyhow::Result<()> {
-    let jobs = &[job(0, 0, 3), job(1, 0, 3), job(2, 0, 4), job(0, 7, 3)];
+    let jobs = &[job!(0, 0, 3), job!(1, 0, 3), job!(2, 0, 4), job!(0, 7, 3)];
     shown(rt, "overload", &on_whole(jobs, 14))?;
-    let jobs = &[job(0, 0, 3), job(1, 0, 3), job(2, 0, 3), job(0, 7, 3)];
+    let jobs = &[job!(0, 0, 3), job!(1, 0, 3), job!(2, 0, 3), job!(0, 7, 3)];
     shown(rt, "one slot less", &on_whole(jobs, 14))?;
-    let jobs = &[job(1, 3, 3), job(0, 5, 2)];
+    let jobs = &[job!(1, 3, 3), job!(0, 5, 2)];
     shown(rt, "one deadline, two places", &on_whole(jobs, 11))?;
     on_part(rt)?;
     let mut case = on_whole(&[], 0);
@@ -100,16 +69,16 @@ fn taken(rt: &HostRuntime) -> anyhow::Result<()> {
 
 // Lists that are refused for one of their jobs, or for want of slots.
 fn refused(rt: &HostRuntime) -> anyhow::Result<()> {
-    shown(rt, "line 8", &on_whole(&[job(8, 0, 1)], 2))?;
-    let jobs = &[job(0, 0, 1), job(255, 0, 1)];
+    shown(rt, "line 8", &on_whole(&[job!(8, 0, 1)], 2))?;
+    let jobs = &[job!(0, 0, 1), job!(255, 0, 1)];
     shown(rt, "line 255", &on_whole(jobs, 2))?;
-    shown(rt, "cost 0", &on_whole(&[job(0, 0, 0)], 2))?;
-    shown(rt, "cost over the line's", &on_whole(&[job(0, 0, 4)], 2))?;
-    let jobs = &[job(0, 3, 1), job(1, 2, 1)];
+    shown(rt, "cost 0", &on_whole(&[job!(0, 0, 0)], 2))?;
+    shown(rt, "cost over the line's", &on_whole(&[job!(0, 0, 4)], 2))?;
+    let jobs = &[job!(0, 3, 1), job!(1, 2, 1)];
     shown(rt, "out of order", &on_whole(jobs, 2))?;
-    let jobs = &[job(0, 0, 1), job(1, 0, 1), job(0, 6, 1)];
+    let jobs = &[job!(0, 0, 1), job!(1, 0, 1), job!(0, 6, 1)];
     shown(rt, "nearer than a period", &on_whole(jobs, 2))?;
-    let jobs = &[job(2, 0, 1), job(0, 1, 1)];
+    let jobs = &[job!(2, 0, 1), job!(0, 1, 1)];
     shown(rt, "too short by one", &on_whole(jobs, 9))?;
     shown(rt, "just long enough", &on_whole(jobs, 10))
 }
@@ -136,15 +105,15 @@ fn one_line(
 
 // The most jobs, the last deadline, and one more of each.
 fn largest(rt: &HostRuntime) -> anyhow::Result<()> {
-    let short = row(15, 15, 1);
+    let short = row!(15, 15, 1);
     let jobs = regular(rt.alloc(), 2_048, 15)?;
     one_line(rt, "2048 jobs", short, jobs.as_slice(), 32_000)?;
     let jobs = regular(rt.alloc(), 2_049, 15)?;
     one_line(rt, "2049 jobs", short, jobs.as_slice(), 32_000)?;
-    let long = row(1_000, 1_000, 1);
-    one_line(rt, "due at 32000", long, &[job(0, 31_000, 1)], 32_000)?;
-    one_line(rt, "due at 32001", long, &[job(0, 31_001, 1)], 32_001)?;
-    one_line(rt, "released at 65535", long, &[job(0, 65_535, 1)], 32_001)
+    let long = row!(1_000, 1_000, 1);
+    one_line(rt, "due at 32000", long, &[job!(0, 31_000, 1)], 32_000)?;
+    one_line(rt, "due at 32001", long, &[job!(0, 31_001, 1)], 32_001)?;
+    one_line(rt, "released at 65535", long, &[job!(0, 65_535, 1)], 32_001)
 }
 
 pub(crate) fn show(rt: &HostRuntime) -> anyhow::Result<()> {

@@ -4,37 +4,30 @@ use anyhow::anyhow;
 use lines::Row;
 use run::{Job, Outcome};
 use std::alloc::{AllocError, Global};
+use std::fmt;
 use supply::{Share, Supply, Timetable, Whole};
-use trial_tools::{Generator, Steps};
+use trial_tools::{Generator, Upper, job, may_release};
 
-// Numbers that look random, the same on each run.
-#[derive(Clone, Copy)]
-struct Dice {
-    steps: Steps,
-}
-
-impl Generator for Dice {
-    ghost use Rattle.std.specs.Prelude.{◌+◌, ◌*◌, ◌/◌, ◌%◌, ◌^◌};
-
-    ghost after = { λ dice. record { steps = record { state = (dice.steps.state * 6364136223846793005 + 1442695040888963407) % 2 ^ 64 } } };
-
-    ghost number = { λ dice. (dice.steps.state * 6364136223846793005 + 1442695040888963407) % 2 ^ 64 / 2 ^ 33 };
-
-    fn next(&mut self) -> u64 {
-        self.steps.step() >> 33
-    }
-}
+// Numbers that look random, the same on each run: the upper 31 bits of each state.
+type Numbers = Upper<0x2_0000_0000, 0x8000_0000>;
 
 // How many runs ended in which way, and how many were not as they should be.
 #[derive(Clone, Copy)]
-struct Tally {
+struct Ends {
     met: u32,
     missed: u32,
     refused: u32,
     wrong: u32,
 }
 
-impl Tally {
+impl Ends {
+    const NONE: Ends = Ends {
+        met: 0,
+        missed: 0,
+        refused: 0,
+        wrong: 0,
+    };
+
     fn add(&mut self, trial: &Trial, right: bool) {
         match trial.answer {
             Ok(Outcome::Met) => self.met = self.met.saturating_add(1),
@@ -45,43 +38,75 @@ impl Tally {
             self.wrong = self.wrong.saturating_add(1);
         }
     }
+
+    // Runs a case, and adds how it ended.
+    fn count<S: Supply>(
+        &mut self,
+        heap: Global,
+        case: &Case<S>,
+        pattern: &[bool],
+    ) -> Result<(), AllocError> {
+        let trial = case.tried(heap)?;
+        let expected = case.expected(heap, pattern)?;
+        self.add(&trial, trial == expected);
+        Ok(())
+    }
+}
+
+impl fmt::Display for Ends {
+    fn fmt<W: fmt::Write>(&self, f: &mut fmt::Formatter<W>) -> fmt::Result {
+        let met = self.met;
+        let missed = self.missed;
+        let refused = self.refused;
+        let wrong = self.wrong;
+        write!(f, "{met} met, {missed} missed, {refused} refused, {wrong} not as the slow simulation says")
+    }
+}
+
+// The supplies beside the whole processor: every second slot, and 2 slots of each 3.
+#[derive(Clone, Copy)]
+struct Parts {
+    half: Timetable,
+    share: Share<Whole>,
+}
+
+impl Parts {
+    fn new() -> anyhow::Result<Parts> {
+        let half = Timetable::new(2, 2).map_err(|_| anyhow!("every second slot is a timetable"))?;
+        let share = Share::new(Whole, 2, 3).map_err(|_| anyhow!("2 in 3 is a share"))?;
+        Ok(Parts { half, share })
+    }
+
+    // Runs a case of the whole processor, and then the same on each part.
+    fn count(&self, heap: Global, ends: &mut Ends, case: &Case<Whole>) -> Result<(), AllocError> {
+        let k = case.phase;
+        ends.count(heap, case, &[true])?;
+        let halves = [k % 2 == 1, k % 2 == 0];
+        ends.count(heap, &case.on(&self.half), &halves)?;
+        let thirds = [k % 3 != 2, k % 3 != 1, k % 3 != 0];
+        ends.count(heap, &case.on(&self.share), &thirds)
+    }
 }
 
 // Up to 4 lines that can be taken together.
-fn rows(heap: Global, dice: &mut Dice) -> Result<Vec<Row>, AllocError> {
+fn rows(heap: Global, numbers: &mut Numbers) -> Result<Vec<Row>, AllocError> {
     let mut rows = Vec::new(heap);
-    for _ in 0..dice.up_to(4) {
-        let period = dice.up_to(16);
-        rows.push(Row {
-            period,
-            deadline: dice.up_to(period),
-            cost: dice.up_to(4),
-        })?;
+    for _ in 0..numbers.up_to(4) {
+        let period = numbers.up_to(16);
+        rows.push(numbers.row(period, 4))?;
     }
     let many = lines_of(rows.as_slice()).len();
     rows.truncate(many);
     Ok(rows)
 }
 
-// Whether a job of a line may be released at an instant behind some others.
-fn may(jobs: &[Job], line: u8, period: u16, at: u16) -> bool {
-    jobs.iter().all(|job| {
-        job.line != line || u32::from(at) >= u32::from(job.release) + u32::from(period)
-    })
-}
-
 // Jobs of some lines that pass the checks.
-fn jobs(heap: Global, dice: &mut Dice, rows: &[Row]) -> Result<Vec<Job>, AllocError> {
+fn jobs(heap: Global, numbers: &mut Numbers, rows: &[Row]) -> Result<Vec<Job>, AllocError> {
     let mut jobs = Vec::new(heap);
     for release in 0..40 {
         for (line, row) in (0..8u8).zip(rows) {
-            if dice.below(5) == 0 && may(jobs.as_slice(), line, row.period, release) {
-                let cost = dice.up_to(row.cost);
-                jobs.push(Job {
-                    line,
-                    release,
-                    cost,
-                })?;
+            if numbers.below(5) == 0 && may_release(jobs.as_slice(), line, row.period, release) {
+                jobs.push(job!(line, release, numbers.up_to(row.cost)))?;
             }
         }
     }
@@ -89,80 +114,47 @@ fn jobs(heap: Global, dice: &mut Dice, rows: &[Row]) -> Result<Vec<Job>, AllocEr
 }
 
 // Changes one job of a list, often so that it should be refused.
-fn spoil(dice: &mut Dice, jobs: &mut Vec<Job>) {
-    let place = usize::from(dice.below(64));
-    let line = (dice.below(6) & 0xff) as u8;
-    let release = dice.below(60);
-    let cost = dice.below(8);
+fn spoil(numbers: &mut Numbers, jobs: &mut Vec<Job>) {
+    let place = usize::from(numbers.below(64));
+    let line = u8::try_from(numbers.below(6)).unwrap_or(0);
+    let release = numbers.below(60);
+    let cost = numbers.below(8);
     if let Some(job) = jobs.get_mut(place) {
-        *job = Job {
-            line,
-            release,
-            cost,
-        };
+        *job = job!(line, release, cost);
     }
 }
 
-// Runs a case, and adds how it ended to a tally.
-fn counted<S: Supply>(
+// Runs the random lists of a number: in each fourth of them one job is changed.
+fn compare_lists(
     heap: Global,
-    tally: &mut Tally,
-    case: &Case<S>,
-    pattern: &[bool],
+    ends: &mut Ends,
+    numbers: &mut Numbers,
+    parts: &Parts,
+    k: u32,
 ) -> Result<(), AllocError> {
-    let trial = case.tried(heap)?;
-    let expected = case.expected(heap, pattern)?;
-    tally.add(&trial, trial.agrees(&expected));
-    Ok(())
+    let rows = rows(heap, numbers)?;
+    let mut jobs = jobs(heap, numbers, rows.as_slice())?;
+    if k % 4 == 0 {
+        spoil(numbers, &mut jobs);
+    }
+    let case = Case {
+        rows: rows.as_slice(),
+        jobs: jobs.as_slice(),
+        supply: &Whole,
+        phase: k,
+        slots: usize::from(numbers.below(20)).wrapping_add(48),
+    };
+    parts.count(heap, ends, &case)
 }
 
 // Runs random lists and prints how they ended.
 pub(crate) fn compare(rt: &HostRuntime) -> anyhow::Result<()> {
-    let heap = rt.alloc();
-    let timetable = Timetable::new(2, 2).map_err(|_| anyhow!("every second slot is a timetable"))?;
-    let share = Share::new(Whole, 2, 3).map_err(|_| anyhow!("2 in 3 is a share"))?;
-    let mut dice = Dice {
-        steps: Steps::new(2_026),
-    };
-    let mut tally = Tally {
-        met: 0,
-        missed: 0,
-        refused: 0,
-        wrong: 0,
-    };
+    let parts = Parts::new()?;
+    let mut numbers = Numbers::new(2_026);
+    let mut ends = Ends::NONE;
     for k in 0..400u32 {
-        let rows = rows(heap, &mut dice)?;
-        let mut jobs = jobs(heap, &mut dice, rows.as_slice())?;
-        if k % 4 == 0 {
-            spoil(&mut dice, &mut jobs);
-        }
-        let slots = usize::from(dice.below(20)).wrapping_add(48);
-        let whole = Case {
-            rows: rows.as_slice(),
-            jobs: jobs.as_slice(),
-            supply: &Whole,
-            phase: k,
-            slots,
-        };
-        counted(heap, &mut tally, &whole, &[true])?;
-        let odd = whole.on(&timetable);
-        counted(heap, &mut tally, &odd, &[k % 2 == 1, k % 2 == 0])?;
-        let part = whole.on(&share);
-        counted(
-            heap,
-            &mut tally,
-            &part,
-            &[k % 3 != 2, k % 3 != 1, k % 3 != 0],
-        )?;
+        compare_lists(rt.alloc(), &mut ends, &mut numbers, &parts, k)?;
     }
-    let Tally {
-        met,
-        missed,
-        refused,
-        wrong,
-    } = tally;
-    println!(rt;
-        "random lists: {met} met, {missed} missed, {refused} refused, {wrong} not as the slow simulation says"
-    )?;
+    println!(rt; "random lists: {ends}")?;
     Ok(())
 }

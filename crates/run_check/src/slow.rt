@@ -12,56 +12,11 @@ struct Task {
     left: u16,
 }
 
-// The deadline of a job; its release, where its line isn't there.
-fn deadline(rows: &[Row], job: Job) -> usize {
-    let row = rows.get(usize::from(job.line));
-    usize::from(job.release) + row.map_or(0, |row| usize::from(row.deadline))
-}
-
-// The largest deadline.
-fn last_deadline(rows: &[Row], jobs: &[Job]) -> usize {
-    jobs.iter()
-        .map(|job| deadline(rows, *job))
-        .max()
-        .unwrap_or(0)
-}
-
-// Whether a job may stand behind others, by comparing it with each of them.
-fn may_follow(rows: &[Row], before: &[Job], job: Job) -> Result<(), Reason> {
-    let row = rows
-        .get(usize::from(job.line))
-        .ok_or(Reason::JobOutOfRange)?;
-    if job.cost == 0 || job.cost > row.cost {
-        return Err(Reason::JobOutOfRange);
-    }
-    let too_soon = before.iter().any(|other| {
-        let again = u32::from(other.release) + u32::from(row.period);
-        other.release > job.release || other.line == job.line && u32::from(job.release) < again
-    });
-    if too_soon {
-        return Err(Reason::JobTooSoon);
-    }
-    if deadline(rows, job) > 32_000 {
-        return Err(Reason::TooLarge);
-    }
-    Ok(())
-}
-
-// Whether a list may be run with so many slots, and else the refusal that it should get.
-pub(crate) fn allowed(rows: &[Row], jobs: &[Job], slots: usize) -> Result<(), Refusal> {
-    if jobs.len() > 2_048 {
-        return Err(Refusal::by(Layer::Run, Reason::TooLarge));
-    }
-    for (place, job) in jobs.iter().enumerate() {
-        may_follow(rows, &jobs[..place], *job).map_err(|reason| Refusal::by(Layer::Run, reason).at(
-            place as u32,
-        ))?;
-    }
-    let needed = last_deadline(rows, jobs);
-    if slots < needed {
-        return Err(Refusal::by(Layer::Run, Reason::ListTooShort).at(u32::from(small(needed))));
-    }
-    Ok(())
+// Jobs of the lines of some rows.
+#[derive(Clone, Copy)]
+pub(crate) struct List<'a> {
+    pub(crate) rows: &'a [Row],
+    pub(crate) jobs: &'a [Job],
 }
 
 // The lowest place that is due at an instant with work left.
@@ -96,17 +51,6 @@ fn given(pattern: &[bool], s: usize) -> bool {
         .unwrap_or(false)
 }
 
-// The jobs of a list with all their work to go.
-fn tasks_of(heap: Global, rows: &[Row], jobs: &[Job]) -> Result<Vec<Task>, AllocError> {
-    jobs.iter()
-        .map(|job| Task {
-            release: usize::from(job.release),
-            deadline: deadline(rows, *job),
-            left: job.cost,
-        })
-        .collect(heap)
-}
-
 // Serves a given slot, and tells its entry.
 fn slot(tasks: &mut Vec<Task>, s: usize) -> u16 {
     match chosen(tasks.as_slice(), s) {
@@ -118,34 +62,101 @@ fn slot(tasks: &mut Vec<Task>, s: usize) -> u16 {
     }
 }
 
-// How a run ends, and what so many slots then hold.
-pub(crate) fn simulate(
-    heap: Global,
-    rows: &[Row],
-    jobs: &[Job],
-    pattern: &[bool],
-    slots: usize,
-) -> Result<(Outcome, Vec<u16>), AllocError> {
-    let mut tasks = tasks_of(heap, rows, jobs)?;
-    let mut entries = Vec::new(heap);
-    let mut outcome = Outcome::Met;
-    for s in 0..last_deadline(rows, jobs) {
-        if given(pattern, s) {
-            entries.push(slot(&mut tasks, s))?;
-        } else {
-            entries.push(65_535)?;
-        }
-        let at = s.saturating_add(1);
-        if let Some(place) = missed(tasks.as_slice(), at) {
-            outcome = Outcome::Missed {
-                job: small(place),
-                at: small(at),
-            };
-            break;
-        }
+impl List<'_> {
+    // The deadline of a job; its release, where its line isn't there.
+    fn deadline(self, job: Job) -> usize {
+        let row = self.rows.get(usize::from(job.line));
+        usize::from(job.release) + row.map_or(0, |row| usize::from(row.deadline))
     }
-    entries.resize(slots, 65_535)?;
-    Ok((outcome, entries))
+
+    // The largest deadline.
+    fn last_deadline(self) -> usize {
+        self.jobs
+            .iter()
+            .map(|job| self.deadline(*job))
+            .max()
+            .unwrap_or(0)
+    }
+
+    // Whether a job may stand at a place, by comparing it with each of those before.
+    fn may_follow(self, place: usize, job: Job) -> Result<(), Reason> {
+        let row = self
+            .rows
+            .get(usize::from(job.line))
+            .ok_or(Reason::JobOutOfRange)?;
+        if job.cost == 0 || job.cost > row.cost {
+            return Err(Reason::JobOutOfRange);
+        }
+        let too_soon = self.jobs.iter().take(place).any(|other| {
+            let again = u32::from(other.release) + u32::from(row.period);
+            other.release > job.release || other.line == job.line && u32::from(job.release) < again
+        });
+        if too_soon {
+            return Err(Reason::JobTooSoon);
+        }
+        if self.deadline(job) > 32_000 {
+            return Err(Reason::TooLarge);
+        }
+        Ok(())
+    }
+
+    // Whether it may be run with so many slots, and else the refusal that it should get.
+    pub(crate) fn allowed(self, slots: usize) -> Result<(), Refusal> {
+        if self.jobs.len() > 2_048 {
+            return Err(Refusal::by(Layer::Run, Reason::TooLarge));
+        }
+        for (place, job) in self.jobs.iter().enumerate() {
+            self.may_follow(place, *job).map_err(|reason| Refusal::by(Layer::Run, reason).at(
+                place as u32,
+            ))?;
+        }
+        let needed = self.last_deadline();
+        if slots < needed {
+            return Err(Refusal::by(Layer::Run, Reason::ListTooShort).at(u32::from(small(needed))));
+        }
+        Ok(())
+    }
+
+    // Its jobs with all their work to go.
+    fn tasks(self, heap: Global) -> Result<Vec<Task>, AllocError> {
+        self.jobs
+            .iter()
+            .map(|job| Task {
+                release: usize::from(job.release),
+                deadline: self.deadline(*job),
+                left: job.cost,
+            })
+            .collect(heap)
+    }
+
+    // How a run ends, and what so many slots then hold.
+    pub(crate) fn simulate(
+        self,
+        heap: Global,
+        pattern: &[bool],
+        slots: usize,
+    ) -> Result<(Outcome, Vec<u16>), AllocError> {
+        let mut tasks = self.tasks(heap)?;
+        let mut entries = Vec::new(heap);
+        let mut outcome = Outcome::Met;
+        for s in 0..self.last_deadline() {
+            if given(pattern, s) {
+                entries.push(slot(&mut tasks, s))?;
+            } else {
+                entries.push(65_535)?;
+            }
+            let at = s.saturating_add(1);
+            if let Some(place) = missed(tasks.as_slice(), at) {
+                outcome = Outcome::Missed {
+                    job: small(place),
+                    at: small(at),
+                };
+                break;
+            }
+        }
+        entries.resize(slots, 65_535)?;
+        Ok((outcome, entries))
+    }
 }
 
 // A number as 16 bits, or the largest of them.

@@ -1,5 +1,5 @@
 // One run, and whether it is what the slow simulation says.
-use crate::slow;
+use crate::slow::List;
 use lines::{Lines, Row};
 use refusal::Refusal;
 use run::{Job, Outcome, run};
@@ -21,7 +21,7 @@ pub(crate) struct Case<'a, S: Supply> {
 }
 
 // A run: its answer, and what the slots held after it.
-#[derive(Drop)]
+#[derive(PartialEq, Drop)]
 pub(crate) struct Trial {
     pub(crate) answer: Result<Outcome, Refusal>,
     pub(crate) slots: Vec<u16>,
@@ -77,11 +77,13 @@ impl<'a, S: Supply> Case<'a, S> {
 
     // What the run should be, by the slow simulation, where a pattern says which slots are given.
     pub(crate) fn expected(&self, heap: Global, pattern: &[bool]) -> Result<Trial, AllocError> {
-        match slow::allowed(self.rows, self.jobs, self.slots) {
+        let list = List {
+            rows: self.rows,
+            jobs: self.jobs,
+        };
+        match list.allowed(self.slots) {
             Ok(()) => {
-                let (outcome, slots) = slow::simulate(
-                    heap, self.rows, self.jobs, pattern, self.slots,
-                )?;
+                let (outcome, slots) = list.simulate(heap, pattern, self.slots)?;
                 Ok(Trial {
                     answer: Ok(outcome),
                     slots,
@@ -92,12 +94,5 @@ impl<'a, S: Supply> Case<'a, S> {
                 slots: vec![in heap; BEFORE; self.slots]?,
             }),
         }
-    }
-}
-
-impl Trial {
-    // Whether another run ended in the same way and left the same slots.
-    pub(crate) fn agrees(&self, other: &Trial) -> bool {
-        self.answer == other.answer && self.slots.as_slice() == other.slots.as_slice()
     }
 }

@@ -3,20 +3,27 @@
 #![tactic(auto)]
 
 mod cite;
+mod front;
+mod jobs;
 mod plan;
 mod random;
 mod tables;
 mod tally;
 #[cfg(test)]
 mod tests;
+mod turn;
 mod untaken;
 mod watched;
 
 pub use cite::Cite;
+pub use front::holds;
+pub use jobs::may_release;
 pub use lines::Row;
 pub use plan::Plan;
-pub use random::{Generator, Random, Steps};
+pub use random::{Generator, Random, Steps, Upper};
 pub use refusal::{Layer, Reason, Refusal};
+pub use run::Job;
 pub use tally::{Tally, print};
+pub use turn::next_place;
 pub use untaken::Untaken;
 pub use watched::Watched;

@@ -110,3 +110,30 @@ impl Steps {
         self.state
     }
 }
+
+// Numbers below END from the states of steps, divided by BELOW: of the bits of a state the lower ones repeat soon.
+#[derive(Clone, Copy)]
+pub struct Upper<const BELOW: u64, const END: u64> {
+    pub steps: Steps,
+}
+
+impl<const BELOW: u64, const END: u64> Upper<BELOW, END> {
+    // Numbers of the steps that start from a seed.
+    pub fn new(seed: u64) -> Upper<BELOW, END>
+        ensures { result.steps.state ≡ seed }
+    {
+        Upper {
+            steps: Steps::new(seed),
+        }
+    }
+}
+
+impl<const BELOW: u64, const END: u64> Generator for Upper<BELOW, END> {
+    ghost after = { λ upper. record { steps = record { state = (upper.steps.state * 6364136223846793005 + 1442695040888963407) % 2 ^ 64 } } };
+
+    ghost number = { λ upper. (upper.steps.state * 6364136223846793005 + 1442695040888963407) % 2 ^ 64 / max BELOW 1 % max END 1 };
+
+    fn next(&mut self) -> u64 {
+        self.steps.step() / BELOW.max(1) % END.max(1)
+    }
+}

@@ -18,6 +18,18 @@ macro_rules! rows {
     };
 }
 
+// A job as the tables write it: its line, its release and its cost.
+#[macro_export]
+macro_rules! job {
+    ($line:expr, $release:expr, $cost:expr) => {
+        $crate::Job {
+            line: $line,
+            release: $release,
+            cost: $cost,
+        }
+    };
+}
+
 // The roster's own refusal for a reason, at a place: 0 where none is named.
 #[macro_export]
 macro_rules! refused {

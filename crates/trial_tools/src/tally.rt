@@ -47,7 +47,7 @@ impl fmt::Display for Tally {
     }
 }
 
-// Prints some groups, each on a line.
+// Prints some groups, each on a line. It only prints, and promises nothing that a clause could name.
 pub fn print(rt: &impl Print, groups: &[Tally]) -> io::Result<()> {
     for group in groups {
         println!(rt; "{group}")?;

@@ -1,0 +1,6 @@
+// Whether a list begins with some items, and holds behind them what it held before.
+pub fn holds<T: PartialEq + Copy>(list: &[T], front: &[T], before: T) -> bool {
+    list.iter()
+        .enumerate()
+        .all(|(place, item)| *item == front.get(place).copied().unwrap_or(before))
+}
