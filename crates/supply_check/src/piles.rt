@@ -64,54 +64,79 @@ static PILES: [Numbers; 7] = [
     },
 ];
 
-// How many of n slots are given, from these places of the row and of the two shares on. (Three places, and no struct of them:
-// they come from the three loops below, and go nowhere else.)
-fn given_at(row: &Row, numbers: Numbers, place: u8, inner: u8, outer: u8, n: u16) -> u16 {
-    let first = SharePlayer {
-        below: row.play(place),
-        part: numbers.inner,
-        place: inner,
-    };
-    let second = SharePlayer {
-        below: first,
-        part: numbers.outer,
-        place: outer,
-    };
-    given_in(second, n)
+// A pile, the numbers that it is made of, and the row of its timetable, slot by slot.
+#[derive(Drop)]
+struct Pile {
+    made: Share<Share<Timetable>>,
+    numbers: Numbers,
+    row: Row,
 }
 
-// The phase to be answered with the least: the worst place of the row, and of each share the first place that is not taken.
-fn worst_phase(row: &Row, numbers: Numbers, n: u16) -> u32 {
-    let (_, place) = row.fewest(n);
-    let length = u32::from(numbers.length);
-    let below = length.wrapping_mul(u32::from(numbers.inner.turn));
-    u32::from(place)
-        .wrapping_add(length.wrapping_mul(u32::from(numbers.inner.after_taken())))
-        .wrapping_add(below.wrapping_mul(u32::from(numbers.outer.after_taken())))
-}
+impl Pile {
+    // How many of n slots are given, from these places of the row and of the two shares on. (Three places, and no struct of
+    // them: they come from the three loops of `compare`, and go nowhere else.)
+    fn given_at(&self, place: u8, inner: u8, outer: u8, n: u16) -> u16 {
+        let first = SharePlayer {
+            below: self.row.play(place),
+            part: self.numbers.inner,
+            place: inner,
+        };
+        let second = SharePlayer {
+            below: first,
+            part: self.numbers.outer,
+            place: outer,
+        };
+        given_in(second, n)
+    }
 
-// Compares a pile over n slots: every phase and one far above it, the least with its phase, and the number of phases.
-// Phase p + N x r comes after r times the N phases below, so the place in the row goes round fastest.
-fn compare(tally: &mut Tally, pile: &Share<Share<Timetable>>, row: &Row, numbers: Numbers, n: u16) {
-    let far = pile.phases().wrapping_mul(4000);
-    let mut fewest = u16::MAX;
-    // Counted along, and not by a formula: which phase follows which is what is compared.
-    let mut phase: u32 = 0;
-    for outer in 0..numbers.outer.turn {
-        for inner in 0..numbers.inner.turn {
-            for place in 0..numbers.length {
-                let given = given_at(row, numbers, place, inner, outer, n);
-                tally.note(pile.count(phase, n) == given);
-                tally.note(pile.count(far.wrapping_add(phase), n) == given);
-                fewest = fewest.min(given);
-                phase = phase.wrapping_add(1);
+    // The phase to be answered with the least: the worst place of the row, and of each share the first place that is not taken.
+    fn worst_phase(&self, n: u16) -> u32 {
+        let Numbers {
+            length,
+            inner,
+            outer,
+            ..
+        } = self.numbers;
+        let (_, place) = self.row.fewest(n);
+        let length = u32::from(length);
+        let below = length.wrapping_mul(u32::from(inner.turn));
+        u32::from(place)
+            .wrapping_add(length.wrapping_mul(u32::from(inner.after_taken())))
+            .wrapping_add(below.wrapping_mul(u32::from(outer.after_taken())))
+    }
+
+    // Compares it over n slots: every phase and one far above it, the least with its phase, and the number of phases.
+    // Phase p + N x r comes after r times the N phases below, so the place in the row goes round fastest.
+    fn compare(&self, tally: &mut Tally, n: u16) {
+        let far = self.made.phases().wrapping_mul(4000);
+        let mut fewest = u16::MAX;
+        // Counted along, and not by a formula: which phase follows which is what is compared.
+        let mut phase: u32 = 0;
+        for outer in 0..self.numbers.outer.turn {
+            for inner in 0..self.numbers.inner.turn {
+                for place in 0..self.numbers.length {
+                    let given = self.given_at(place, inner, outer, n);
+                    tally.note(self.made.count(phase, n) == given);
+                    tally.note(self.made.count(far.wrapping_add(phase), n) == given);
+                    fewest = fewest.min(given);
+                    phase = phase.wrapping_add(1);
+                }
             }
         }
+        let (number, worst) = self.made.least(n);
+        tally.note(number == fewest);
+        tally.note(worst == self.worst_phase(n));
+        tally.note(self.made.phases() == phase);
     }
-    let (number, worst) = pile.least(n);
-    tally.note(number == fewest);
-    tally.note(worst == worst_phase(row, numbers, n));
-    tally.note(pile.phases() == phase);
+
+    fn compare_windows(&self, tally: &mut Tally) {
+        for n in WINDOWS {
+            self.compare(tally, n);
+        }
+        if self.made.phases() < 100 {
+            self.compare(tally, 65_535);
+        }
+    }
 }
 
 // The pile of these numbers, if they make one.
@@ -121,21 +146,12 @@ pub fn made(numbers: Numbers) -> Option<Share<Share<Timetable>>> {
     Share::new(inner, numbers.outer.taken, numbers.outer.turn).ok()
 }
 
-fn compare_windows(tally: &mut Tally, pile: &Share<Share<Timetable>>, row: &Row, numbers: Numbers) {
-    for n in WINDOWS {
-        compare(tally, pile, row, numbers, n);
-    }
-    if pile.phases() < 100 {
-        compare(tally, pile, row, numbers, 65_535);
-    }
-}
-
 pub fn compare_all(rt: &HostRuntime) -> io::Result<()> {
     let mut tally = Tally::of("piles of two shares");
     for numbers in PILES {
         let row = Row::of(rt.alloc(), numbers.length, numbers.word)?;
         match made(numbers) {
-            Some(pile) => compare_windows(&mut tally, &pile, &row, numbers),
+            Some(made) => Pile { made, numbers, row }.compare_windows(&mut tally),
             None => tally.note(false),
         }
     }

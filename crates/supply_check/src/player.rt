@@ -1,14 +1,6 @@
 // A supply played slot by slot, from slot 0 of a phase on.
 use std::alloc::{AllocError, Global};
-
-// The next place of a turn: after the last comes the first.
-fn round(place: u8, turn: u8) -> u8 {
-    if place < turn.saturating_sub(1) {
-        place + 1
-    } else {
-        0
-    }
-}
+use trial_tools::next_place;
 
 // A supply has no last slot, so this is no `Iterator`, whose every `next` may be the end.
 pub trait Player {
@@ -16,10 +8,14 @@ pub trait Player {
     fn next_given(&mut self) -> bool;
 }
 
+// How many slots a row has: at most 64.
+fn length(slots: &[bool]) -> u8 {
+    u8::try_from(slots.len()).unwrap_or(u8::MAX)
+}
+
 // A row of slots that repeats for ever.
 #[derive(Drop)]
 pub struct Row {
-    pub length: u8,
     slots: Vec<bool>,
 }
 
@@ -29,21 +25,25 @@ impl Row {
         let slots = (0..length)
             .map(|slot| word.checked_shr(u32::from(slot)).unwrap_or(0) % 2 == 1)
             .collect(heap)?;
-        Ok(Row { length, slots })
+        Ok(Row { slots })
+    }
+
+    // How many slots it has.
+    pub fn len(&self) -> u8 {
+        length(self.slots.as_slice())
     }
 
     // The row played from a place on.
     pub fn play(&self, place: u8) -> RowPlayer<'_> {
         RowPlayer {
             slots: self.slots.as_slice(),
-            turn: self.length,
             place,
         }
     }
 
     // The fewest given slots that n slots of the row hold, and the first place to begin at for that.
     pub fn fewest(&self, n: u16) -> (u16, u8) {
-        (0..self.length)
+        (0..self.len())
             .map(|place| (given_in(self.play(place), n), place))
             .fold((u16::MAX, 0), |fewest, next| fewest.min(next))
     }
@@ -52,14 +52,13 @@ impl Row {
 #[derive(Drop)]
 pub struct RowPlayer<'a> {
     slots: &'a [bool],
-    turn: u8,
     place: u8,
 }
 
 impl Player for RowPlayer<'_> {
     fn next_given(&mut self) -> bool {
         let given = self.slots.get(usize::from(self.place)) == Some(&true);
-        self.place = round(self.place, self.turn);
+        self.place = next_place(self.place, length(self.slots));
         given
     }
 }
@@ -96,7 +95,7 @@ impl<P: Player> Player for SharePlayer<P> {
             return false;
         }
         let given = self.place < self.part.taken;
-        self.place = round(self.place, self.part.turn);
+        self.place = next_place(self.place, self.part.turn);
         given
     }
 }

@@ -16,10 +16,10 @@ fn compare(tally: &mut Tally, table: &Timetable, row: &Row, n: u16) {
     let (fewest, first) = row.fewest(n);
     tally.note(number == fewest);
     tally.note(phase == u32::from(first));
-    for place in 0..row.length {
+    for place in 0..row.len() {
         let given = given_in(row.play(place), n);
         let phase = u32::from(place);
-        let far = phase + 16_000_000 * u32::from(row.length);
+        let far = phase + 16_000_000 * u32::from(row.len());
         tally.note(table.count(phase, n) == given);
         tally.note(table.count(far, n) == given);
     }
