@@ -5,18 +5,7 @@ use refusal::{Layer, Reason, Refusal};
 use roster::Roster;
 use run::{Job, Outcome};
 use supply::{Named, Whole};
-use trial_tools::{Plan, Tally, rows};
-
-// A job as the tables write it: its line, its release and its cost.
-macro_rules! job {
-    ($line:expr, $release:expr, $cost:expr) => {
-        Job {
-            line: $line,
-            release: $release,
-            cost: $cost,
-        }
-    };
-}
+use trial_tools::{Plan, Tally, holds, job, rows};
 
 // An overloaded roster: its supply and lines, the jobs and the phase of its witness, and the job that its run misses, and when.
 struct Case {
@@ -47,24 +36,19 @@ static CASES: [Case; 2] = [
 // What every place of a list holds before.
 const BEFORE: Job = job!(77, 777, 7);
 
-// Whether a list begins with these jobs, and holds what it held before behind them.
-fn holds(list: &[Job], jobs: &[Job]) -> bool {
-    list.iter().enumerate().all(|(place, job)| *job == jobs.get(place).copied().unwrap_or(BEFORE))
-}
-
 // The witness, written into a list: one that is too short is refused with the length that is needed.
 fn compare_witness(tally: &mut Tally, roster: &Roster<Named>, case: &Case, list: &mut [Job]) {
     let needed = case.jobs.len();
     match roster.witness(list) {
         Ok(witness) => tally.note(
-            witness.jobs == needed && witness.phase == case.phase && holds(list, case.jobs),
+            witness.jobs == needed && witness.phase == case.phase && holds(list, case.jobs, BEFORE),
         ),
         Err(refusal) => tally.note(
             list.len() < needed
                 && refusal.reason == Reason::ListTooShort
                 && refusal.layer == Layer::Roster
                 && refusal.place as usize == needed
-                && holds(list, &[]),
+                && holds(list, &[], BEFORE),
         ),
     }
 }
@@ -92,7 +76,7 @@ fn compare_fitting(tally: &mut Tally, lines: &[Row]) {
     let mut list = [BEFORE; 6];
     let answer = enrolled(Whole, lines).witness(&mut list);
     let none = Refusal::by(Layer::Roster, Reason::NothingOverloaded);
-    tally.note(answer == Err(none) && holds(&list, &[]));
+    tally.note(answer == Err(none) && holds(&list, &[], BEFORE));
 }
 
 // Compares the witnesses.

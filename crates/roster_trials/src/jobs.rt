@@ -2,7 +2,7 @@
 use lines::Row;
 use run::Job;
 use std::alloc::{AllocError, Global};
-use trial_tools::{Generator, Random};
+use trial_tools::{Generator, Random, job, may_release};
 
 // Random lists have releases below this instant.
 const RELEASES: u16 = 60;
@@ -33,13 +33,6 @@ pub(crate) fn witness(heap: Global, rows: &[Row], t: u16) -> Result<Vec<Job>, Al
         release_all(&mut jobs, rows, release, t)?;
     }
     Ok(jobs)
-}
-
-// Whether a line may release a job at an instant behind others: each of its jobs came a period before.
-fn may_release(jobs: &[Job], line: u8, period: u16, at: u16) -> bool {
-    jobs.iter()
-        .filter(|job| job.line == line)
-        .all(|job| job.release.saturating_add(period) <= at)
 }
 
 // Adds some of the jobs that may come at an instant, by line.

@@ -1,5 +1,5 @@
 // The slots of a supply, played one by one, and the fewest that any window of them holds.
-use trial_tools::Plan;
+use trial_tools::{Plan, next_place};
 
 // The largest number of slots that is asked for.
 pub(crate) const LAST: u16 = 250;
@@ -16,12 +16,6 @@ type Played = [u16; 315];
 pub(crate) struct Slots {
     plan: Plan,
     least: [u16; 251],
-}
-
-// The next place of a turn: after the last comes the first.
-fn next(place: u8, turn: u8) -> u8 {
-    let after = place.saturating_add(1);
-    if after < turn { after } else { 0 }
 }
 
 // The figure of a number of slots.
@@ -41,9 +35,9 @@ fn played(plan: Plan, start: u8, round: u8) -> Played {
             if turned < plan.taken {
                 many = many.saturating_add(1);
             }
-            turned = next(turned, plan.turn);
+            turned = next_place(turned, plan.turn);
         }
-        place = next(place, plan.length);
+        place = next_place(place, plan.length);
     }
     given
 }

@@ -1,5 +1,6 @@
 // Lists that are lent to a call, which writes a text over the front of them.
 use refusal::{Layer, Reason, Refusal};
+use trial_tools::holds;
 
 // What every byte of a list holds before the call.
 pub(crate) const BEFORE: u8 = 250;
@@ -10,17 +11,12 @@ pub(crate) fn rooms(text: &[u8]) -> [usize; 3] {
     [needed.saturating_sub(1), needed, needed.saturating_add(3)]
 }
 
-// Whether a list holds a text, and behind it what it held before.
-fn holds(list: &[u8], text: &[u8]) -> bool {
-    list.iter().enumerate().all(|(place, byte)| *byte == text.get(place).copied().unwrap_or(BEFORE))
-}
-
 // Whether a call answers what it should, and leaves the list as it should.
 pub(crate) fn is_written(answer: Result<usize, Refusal>, list: &[u8], text: &[u8]) -> bool {
     let needed = text.len();
     if needed <= list.len() {
-        return answer == Ok(needed) && holds(list, text);
+        return answer == Ok(needed) && holds(list, text, BEFORE);
     }
     let refusal = Refusal::by(Layer::Sheet, Reason::ListTooShort).at(needed.min(65_535) as u32);
-    answer == Err(refusal) && holds(list, &[])
+    answer == Err(refusal) && holds(list, &[], BEFORE)
 }

@@ -1,24 +1,24 @@
 // Random figures.
-ghost use Rattle.std.specs.Prelude.{◌+◌, ◌*◌, ◌/◌, ◌%◌, ◌^◌};
-
 use grammar::Fields;
 use lines::Row;
-use trial_tools::{Generator, Steps};
+use trial_tools::{Generator, Upper};
+
+// Two bytes above the lower half of each state.
+type Numbers = Upper<0x1_0000_0000, 0x1_0000>;
 
 // Numbers that look random. The same seed gives the same numbers.
 #[derive(Clone, Copy)]
 pub(crate) struct Random {
-    steps: Steps,
+    numbers: Numbers,
 }
 
 impl Generator for Random {
-    ghost after = { λ random. record { steps = record { state = (random.steps.state * 6364136223846793005 + 1442695040888963407) % 2 ^ 64 } } };
+    ghost after = { λ random. record { numbers = ⟦<Numbers as Generator>⟧.after random.numbers } };
 
-    ghost number = { λ random. (random.steps.state * 6364136223846793005 + 1442695040888963407) % 2 ^ 64 / 2 ^ 32 % 2 ^ 16 };
+    ghost number = { λ random. ⟦<Numbers as Generator>⟧.number random.numbers };
 
-    // Two bytes above the lower half of the next state, since the lower half repeats soon.
     fn next(&mut self) -> u64 {
-        (self.steps.step() >> 32) % 0x1_0000
+        self.numbers.next()
     }
 }
 
@@ -26,13 +26,13 @@ impl Random {
     // A generator that starts from a seed.
     pub(crate) fn new(seed: u64) -> Random {
         Random {
-            steps: Steps::new(seed),
+            numbers: Numbers::new(seed),
         }
     }
 
     // The next state, with its halves exchanged.
     fn whole(&mut self) -> u64 {
-        self.steps.step().rotate_left(32)
+        self.numbers.steps.step().rotate_left(32)
     }
 
     // Any byte.
