@@ -59,7 +59,10 @@ impl fmt::Display for Ends {
         let missed = self.missed;
         let refused = self.refused;
         let wrong = self.wrong;
-        write!(f, "{met} met, {missed} missed, {refused} refused, {wrong} not as the slow simulation says")
+        write!(
+            f,
+            "{met} met, {missed} missed, {refused} refused, {wrong} not as the slow simulation says"
+        )
     }
 }
 

@@ -106,9 +106,8 @@ impl List<'_> {
             return Err(Refusal::by(Layer::Run, Reason::TooLarge));
         }
         for (place, job) in self.jobs.iter().enumerate() {
-            self.may_follow(place, *job).map_err(|reason| Refusal::by(Layer::Run, reason).at(
-                place as u32,
-            ))?;
+            self.may_follow(place, *job)
+                .map_err(|reason| Refusal::by(Layer::Run, reason).at(place as u32))?;
         }
         let needed = self.last_deadline();
         if slots < needed {
