@@ -4,10 +4,10 @@ ghost use Rattle.std.specs.Prelude.{◌≡◌, IfOk, MatchResult, Ok, length, ve
 use crate::trouble::Trouble;
 use crate::usage::Usage;
 use lines::Row;
+use roster::Cite;
 use run::Job;
 use std::alloc::Global;
 use std::str::FromStr;
-use texts::Cite;
 
 // A number, where the word is one and its type has room for it.
 pub fn number<N: FromStr>(word: &str, usage: Usage) -> Result<N, Trouble>

@@ -11,6 +11,7 @@ mod roster;
 mod witness;
 
 pub use call::Call;
+pub use cite::Cite;
 pub use history::{after, judged};
 pub use roster::Roster;
 pub use witness::Witness;

@@ -3,8 +3,8 @@ use crate::counts::count;
 use crate::model::Model;
 use crate::slots::Slots;
 use lines::Row;
+use roster::Cite;
 use std::alloc::{AllocError, Global};
-use trial_tools::Cite;
 
 // The deadline that is to leave, the divisor, and the cites. (A type of its own beside the one of texts, which is plain: this one
 // counts by the definitions.)

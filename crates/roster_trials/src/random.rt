@@ -1,8 +1,9 @@
 // Random lines and certificates.
 use crate::certificate::Certificate;
 use lines::Row;
+use roster::Cite;
 use std::alloc::{AllocError, Global};
-use trial_tools::{Cite, Generator, Random};
+use trial_tools::{Generator, Random};
 
 // The periods of random lines: each divides 120.
 static PERIODS: [u16; 10] = [3, 4, 5, 6, 8, 10, 12, 15, 20, 24];

@@ -1,7 +1,7 @@
 use grammar::Fields;
 use lines::{Lines, Row};
+use roster::Cite;
 use std::alloc::{AllocError, Global};
-use trial_tools::Cite;
 
 // A sheet that is spelled record by record, and how many records it has.
 #[derive(Drop)]

@@ -9,7 +9,8 @@ use trial_tools::{Generator, Tally, cites};
 // How many sheets there are of each kind.
 const SHEETS: u16 = 2000;
 
-// Some lines that can be taken together, and their watch list.
+// Some lines that can be taken together, and their watch list. (A draft and the generator go together, and stay two: the draft goes
+// on alone, and the generator to the next.)
 fn lines(draft: &mut Draft, random: &mut Random) -> Result<WatchList, AllocError> {
     let mut lines = Lines::none();
     let mut list = WatchList::none();
@@ -68,7 +69,7 @@ fn damage(draft: &mut Draft, random: &mut Random) {
     }
 }
 
-// A record with figures of any kind, or a few bytes.
+// A record with figures of any kind, or a few bytes. (A match: a table of closures over the draft and the generator is no plainer.)
 fn odd_record(draft: &mut Draft, random: &mut Random) -> Result<(), AllocError> {
     match random.below(12) {
         0 => draft.open(random.fields()),

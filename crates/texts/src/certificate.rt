@@ -1,9 +1,4 @@
-// A deadline that a certificate cites, with its weight.
-#[derive(Clone, Copy)]
-pub struct Cite {
-    pub deadline: u16,
-    pub weight: u16,
-}
+use roster::Cite;
 
 // Why a deadline need not be watched: so many times what is due by it is covered by what is due by the cites.
 #[derive(Drop)]

@@ -11,7 +11,7 @@ mod run_text;
 mod slots;
 mod survey;
 
-pub use certificate::{Certificate, Cite};
+pub use certificate::Certificate;
 pub use counts::Counts;
 pub use explanation::Explanation;
 pub use jobs::Jobs;

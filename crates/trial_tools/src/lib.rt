@@ -2,7 +2,6 @@
 // that look random, and how their tables write lines, supplies, watch lists and refusals.
 #![tactic(auto)]
 
-mod cite;
 mod front;
 mod jobs;
 mod plan;
@@ -15,7 +14,6 @@ mod turn;
 mod untaken;
 mod watched;
 
-pub use cite::Cite;
 pub use front::holds;
 pub use jobs::may_release;
 pub use lines::Row;

@@ -45,11 +45,11 @@ macro_rules! refused {
     };
 }
 
-// Cites, of each its deadline and its weight.
+// Cites, of each its deadline and its weight, for a program over the roster.
 #[macro_export]
 macro_rules! cites {
     ($(($deadline:expr, $weight:expr)),*) => {
-        &[$($crate::Cite {
+        &[$(roster::Cite {
             deadline: $deadline,
             weight: $weight,
         }),*]

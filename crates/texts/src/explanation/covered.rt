@@ -1,7 +1,7 @@
 // Deadlines that were cut: the sums of their certificates.
-use crate::certificate::{Certificate, Cite};
+use crate::certificate::Certificate;
 use lines::{Lines, WatchList};
-use roster::Roster;
+use roster::{Cite, Roster};
 use std::fmt;
 use supply::Supply;
 
