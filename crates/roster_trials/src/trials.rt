@@ -76,7 +76,7 @@ static PLANS: [Plan; 9] = [
     },
 ];
 
-// The job of a place that holds none.
+// The job of a place that holds none. (The console has one, too: three zeros, which a call would not shorten.)
 const NO_JOB: Job = Job {
     line: 0,
     release: 0,
