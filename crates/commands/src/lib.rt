@@ -1,5 +1,5 @@
-// What the two consoles share: the loop over the lines of input, the words of a line, what is answered to bad ones, and the
-// commands that ask a supply. A program adds what it holds between two lines, and its own commands.
+// What a console needs whatever it holds: the loop over the lines of input, the words of a line, what is answered to bad ones, and
+// the commands that ask a supply. A program adds what it holds between two lines, and its own commands.
 #![tactic(auto)]
 
 mod answering;

@@ -1,6 +1,8 @@
-// The console of supplies and surveys: commands on standard input, one to a line, and what was done on standard output.
+// The roster console: commands on standard input, one to a line, and what was done on standard output.
 #![tactic(auto)]
 
+mod hex;
+mod records;
 mod session;
 
 use commands::converse;
