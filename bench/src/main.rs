@@ -1,0 +1,274 @@
+//! How long the library's answers take, beside straight Rust of the same algorithms and beside other ways to the same answers.
+
+mod inputs;
+mod library;
+mod qpa;
+mod roster;
+mod runs;
+mod sheets;
+mod supply;
+mod timing;
+
+use inputs::{LINES, LONGEST_HYPERPERIOD, MOST_WATCHED};
+use roster::{hyperperiod, Row};
+use std::fmt::Debug;
+use std::hint::black_box;
+use supply::{Share, Supply, Timetable, Whole};
+use timing::{medians, Side};
+
+/// The timetable: three slots in four are given.
+const TIMETABLE: Timetable = Timetable { length: 64, word: 0x7777_7777_7777_7777 };
+
+/// Each share of a pile has so many slots in so many.
+const GIVEN: u8 = 63;
+const OF: u8 = 64;
+
+/// How often an answer is made within one repetition.
+const OFTEN: u32 = 200;
+
+/// A slow answer, and the run of the longest list.
+const SELDOM: u32 = 1;
+const FEW: u32 = 5;
+
+/// The rosters that are judged for one figure.
+const ROSTERS: usize = 5;
+
+const LIBRARY: &str = "library";
+const STRAIGHT: &str = "straight Rust";
+
+/// The program, which ends with an error where two sides differ.
+struct Bench {
+    repetitions: usize,
+    differ: usize,
+}
+
+impl Bench {
+    /// Holds the answers of all sides to that of the first, which is the library.
+    fn compare<A: PartialEq + Debug>(&mut self, what: &str, sides: &mut [Side<A>]) {
+        let first = (sides[0].answer)(1);
+        for side in &mut sides[1..] {
+            let answer = (side.answer)(1);
+            if answer != first {
+                println!("{what}: {LIBRARY} {first:?}, {} {answer:?}", side.name);
+                self.differ += 1;
+            }
+        }
+    }
+
+    /// The medians of the sides, after their answers were compared.
+    fn time<A: PartialEq + Debug>(&mut self, what: &str, sides: &mut [Side<A>]) -> Vec<f64> {
+        self.compare(what, sides);
+        medians(self.repetitions, sides)
+    }
+}
+
+fn heading(columns: &[&str]) {
+    println!("\n| {} |", columns.join(" | "));
+    println!("|{}", "---|".repeat(columns.len()));
+}
+
+/// A line of a table: the library's time, how it grew from the line before, and the ratios that are named in the heading.
+fn line(what: &str, library: f64, before: Option<f64>, ratios: &[Option<f64>]) {
+    let grown = before.map_or("-".to_string(), |before| format!("{:.2}", library / before));
+    let ratios: Vec<String> = ratios.iter().map(|r| r.map_or("-".to_string(), |r| format!("{r:.2}"))).collect();
+    println!("| {what} | {library:.2} | {grown} | {} |", ratios.join(" | "));
+}
+
+/// The verdict in straight Rust, asked for a number of times on one roster.
+#[inline(never)]
+fn straight<S: Supply>(supply: S, rows: &[Row], times: u32) -> Option<u16> {
+    let roster = inputs::roster(supply, rows);
+    for _ in 1..times {
+        black_box(black_box(&roster).verdict());
+    }
+    roster.verdict()
+}
+
+/// The mean over some rosters of the medians of each side.
+fn means(all: &[Vec<f64>]) -> Vec<f64> {
+    (0..all[0].len()).map(|side| all.iter().map(|times| times[side]).sum::<f64>() / all.len() as f64).collect()
+}
+
+/// The verdict over one supply, for lines that fit and for lines just past it.
+fn verdicts_on<S: Supply + Copy>(
+    bench: &mut Bench,
+    rosters: &[[Row; LINES]],
+    supply: S,
+    ask: &dyn Fn(&[Row], u32) -> Option<u16>,
+) -> Vec<f64> {
+    let mut all = Vec::new();
+    for rows in rosters {
+        let rows = inputs::loaded(supply, rows);
+        let past = inputs::overloaded(&rows);
+        let sides = |rows: [Row; LINES]| {
+            [
+                Side::often(LIBRARY, OFTEN, move |times| ask(&rows, times)),
+                Side::often(STRAIGHT, OFTEN, move |times| straight(supply, &rows, times)),
+            ]
+        };
+        bench.compare("verdict past the load", &mut sides(past));
+        all.push(bench.time("verdict", &mut sides(rows)));
+    }
+    means(&all)
+}
+
+/// The quick test on the same lines, on the whole processor.
+fn quick(bench: &mut Bench, rosters: &[[Row; LINES]]) -> f64 {
+    let mut all = Vec::new();
+    for rows in rosters {
+        let rows = inputs::loaded(Whole, rows);
+        let past = inputs::overloaded(&rows);
+        let all_slots = hyperperiod(&rows).expect("a hyperperiod within its bound");
+        let sides = |rows: [Row; LINES]| {
+            [
+                Side::often(LIBRARY, OFTEN, move |times| library::whole(&rows, times).is_none()),
+                Side::single("QPA", OFTEN, move || qpa::fits(black_box(&rows), all_slots)),
+            ]
+        };
+        bench.compare("quick test past the load", &mut sides(past));
+        all.push(bench.time("quick test", &mut sides(rows)));
+    }
+    means(&all)[1]
+}
+
+fn verdicts(bench: &mut Bench) {
+    heading(&[
+        "verdict, by supply and watched deadlines",
+        "library us",
+        "grown",
+        "library : straight",
+        "library : QPA",
+    ]);
+    let one = Share { below: Whole, s: GIVEN, f: OF };
+    let two = Share { below: one, s: GIVEN, f: OF };
+    let three = Share { below: two, s: GIVEN, f: OF };
+    let pile = |shares: u8| move |rows: &[Row], times: u32| library::pile(shares, GIVEN, OF, rows, times);
+    let on_timetable = |rows: &[Row], times: u32| library::timetable(TIMETABLE.length, TIMETABLE.word, rows, times);
+    let sizes = [30..=34, 60..=68, 124..=132, 248..=MOST_WATCHED];
+    let rosters: Vec<_> = sizes.iter().map(|size| inputs::full_rosters(ROSTERS, size.clone(), false)).collect();
+    for supply in 0..5 {
+        let mut before = None;
+        for (size, rosters) in sizes.iter().zip(&rosters) {
+            let (name, times) = match supply {
+                0 => ("whole", verdicts_on(bench, rosters, Whole, &library::whole)),
+                1 => ("timetable of 64", verdicts_on(bench, rosters, TIMETABLE, &on_timetable)),
+                2 => ("1 share", verdicts_on(bench, rosters, one, &pile(1))),
+                3 => ("2 shares", verdicts_on(bench, rosters, two, &pile(2))),
+                _ => ("3 shares", verdicts_on(bench, rosters, three, &pile(3))),
+            };
+            let quick = (supply == 0).then(|| quick(bench, rosters));
+            let what = format!("{name}, {} to {}", size.start(), size.end());
+            line(&what, times[0], before, &[Some(times[0] / times[1]), quick.map(|quick| times[0] / quick)]);
+            before = Some(times[0]);
+        }
+    }
+}
+
+/// A run with the slots that it filled, as one answer.
+type Filled = (runs::End, Vec<u16>);
+
+/// A way to run a list, with slots of its own.
+fn run_side<'a>(
+    name: &'static str,
+    times: u32,
+    room: usize,
+    mut run: impl FnMut(&mut [u16], u32) -> runs::End + 'a,
+) -> Side<'a, Filled> {
+    let mut slots = vec![0; room];
+    Side::often(name, times, move |times| {
+        let end = run(&mut slots, times);
+        // The list is copied for the comparison alone.
+        (end, if times == 1 { slots.clone() } else { Vec::new() })
+    })
+}
+
+fn repeated(times: u32, mut run: impl FnMut() -> runs::End) -> runs::End {
+    for _ in 1..times {
+        black_box(run());
+    }
+    run()
+}
+
+fn job_runs(bench: &mut Bench) {
+    heading(&[
+        "run, by jobs",
+        "library us",
+        "grown",
+        "library : straight table",
+        "heap : library",
+        "slot by slot over all jobs : library",
+    ]);
+    let rows = inputs::busy_lines();
+    let mut before = None;
+    for many in [32, 64, 128, 256, 512, 1024, 2048] {
+        let jobs = inputs::jobs(many);
+        let last = usize::from(runs::checked(&rows, &jobs).expect("a lawful list"));
+        let mut sides = [
+            run_side(LIBRARY, FEW, last, |slots, times| library::run(&rows, &jobs, slots, times)),
+            run_side(STRAIGHT, FEW, last, |slots, times| {
+                repeated(times, || runs::with_table(&Whole, 0, &rows, black_box(&jobs), slots))
+            }),
+            run_side("heap", FEW, last, |slots, times| {
+                repeated(times, || runs::with_heap(&Whole, 0, &rows, black_box(&jobs), slots))
+            }),
+            run_side("slot by slot", SELDOM, last, |slots, times| {
+                repeated(times, || runs::job_by_job(&Whole, 0, &rows, black_box(&jobs), slots))
+            }),
+        ];
+        let times = bench.time("run", &mut sides);
+        let ratios = [Some(times[0] / times[1]), Some(times[2] / times[0]), Some(times[3] / times[0])];
+        line(&format!("{many} jobs, {last} slots"), times[0], before, &ratios);
+        before = Some(times[0]);
+    }
+}
+
+/// The most cuts of eight cites that a sheet of eight lines has room for.
+const MOST_CUTS: usize = 418;
+
+fn reports(bench: &mut Bench) {
+    heading(&["report, by length of the sheet", "library us", "grown", "library : straight"]);
+    let mut before = None;
+    for part in [8, 4, 2, 1] {
+        let sheet = inputs::sheet(MOST_CUTS / part);
+        let mut sides = [
+            Side::single(LIBRARY, FEW, || library::report(black_box(&sheet))),
+            Side::single(STRAIGHT, FEW, || sheets::report(black_box(&sheet))),
+        ];
+        let times = bench.time("report", &mut sides);
+        let text = library::report(&sheet).replace('\n', ", ");
+        let what = format!("{} bytes, {} cuts ({text})", sheet.len(), MOST_CUTS / part);
+        line(what.trim_end_matches(", "), times[0], before, &[Some(times[0] / times[1])]);
+        before = Some(times[0]);
+    }
+}
+
+fn enrolments(bench: &mut Bench) {
+    heading(&["open and enrol eight lines", "library us", "grown", "library : straight"]);
+    let at_hyperperiod = inputs::full_rosters(1, 1..=MOST_WATCHED, true)[0];
+    let at_both = inputs::full_rosters(1, 250..=MOST_WATCHED, true)[0];
+    let mut before = None;
+    for rows in [at_hyperperiod, at_both, inputs::most_watched()] {
+        let mut sides = [
+            Side::single(LIBRARY, OFTEN, || library::enrol(black_box(&rows))),
+            Side::single(STRAIGHT, OFTEN, || inputs::roster(Whole, black_box(&rows)).watched().len()),
+        ];
+        let times = bench.time("enrol", &mut sides);
+        let all_slots = hyperperiod(&rows).unwrap_or(LONGEST_HYPERPERIOD);
+        let what = format!("hyperperiod {all_slots}, {} watched", library::enrol(&rows));
+        line(&what, times[0], before, &[Some(times[0] / times[1])]);
+        before = Some(times[0]);
+    }
+}
+
+fn main() {
+    let repetitions = std::env::args().nth(1).map_or(Ok(15), |text| text.parse()).expect("a number of repetitions");
+    let mut bench = Bench { repetitions, differ: 0 };
+    verdicts(&mut bench);
+    job_runs(&mut bench);
+    reports(&mut bench);
+    enrolments(&mut bench);
+    println!("\nanswers that differ: {}", bench.differ);
+    if bench.differ > 0 {
+        std::process::exit(1);
+    }
+}
