@@ -11,6 +11,7 @@ use Rattle.run.specs.Promise.{ByLaw, MetExactly}
 use Rattle.run.specs.declared.job.Job.{Job}
 use Rattle.run.specs.declared.outcome.Outcome.{Outcome}
 use Rattle.run.specs.declared.outcome.Outcome.TheVariants.{Met, Missed}
+use Rattle.supply.specs.Making.{LawfulShare}
 use Rattle.supply.specs.Meaning.{Meaning}
 use Rattle.supply.specs.Share.{share}
 use Rattle.supply.specs.Whole.{whole}
@@ -28,19 +29,24 @@ abbrev pub piled : (given of shares : ℕ) → Meaning
 piled given of zero = whole
 piled given of (suc n) = share given of (piled given of n)
 
--- A verdict, if there is one, is exact.
-abbrev pub Judged : Meaning → List Figures → Option (Option ℕ) → Type 0
-Judged m figures None = Unit {0}
-Judged m figures (Some verdict) = ExactVerdict m (lines_of figures) verdict
+-- A pile of shares may be made.
+abbrev pub Piles : (given of shares : ℕ) → Type 0
+Piles given of zero = Unit {0}
+Piles given of (suc n) = Piles given of n × LawfulShare (piled given of n) given of
+
+-- There is a verdict where the supply may be made and the lines are a full table, and it is exact.
+abbrev pub Judged : (made : Type 0) → Meaning → List Figures → Option (Option ℕ) → Type 0
+Judged made m figures None = made → length figures ≡ 8 → ⊥
+Judged made m figures (Some verdict) = ExactVerdict m (lines_of figures) verdict
 
 -- A run, if there is one, is by earliest deadline first, and says exactly whether all is met.
 abbrev pub Ran : List Figures → List Job → (slots : List ℕ) → Option Outcome → Type 0
 Ran figures jobs slots None = Unit {0}
 Ran figures jobs slots (Some o) = ByLaw whole 0 (lines_of figures) jobs slots o × MetExactly whole 0 (lines_of figures) jobs slots o
 
--- The number of watched deadlines, if there is one, is that of a roster which the enrolments reach.
+-- For a full table there is a number of watched deadlines, that of a roster which the enrolments reach.
 abbrev pub Watches : List Figures → Option ℕ → Type 0
-Watches figures None = Unit {0}
+Watches figures None = length figures ≡ 8 → ⊥
 Watches figures (Some number) = (rows : List Row) × (watched : List ℕ) × Reached whole (map enrolled figures) rows watched × (number ≡ length watched)
 
 -- How a verdict is told: nothing judged is 0, fits is 1, overloaded is 2.

@@ -1,8 +1,8 @@
 // The functions that the benchmark calls. Each answers on everything that it may be handed.
-ghost use Rattle.bench_calls.specs.Promises.{Judged, Ran, Watches, verdicts_as, end_as, piled};
-ghost use Rattle.std.specs.Prelude.{◌≡◌, ◌<◌, ℕ, Option, unwrap_or};
+ghost use Rattle.bench_calls.specs.Promises.{Judged, Ran, Watches, verdicts_as, end_as, piled, Piles};
+ghost use Rattle.std.specs.Prelude.{◌≡◌, ◌≤◌, ℕ, Option, unwrap_or};
 ghost use Rattle.run.specs.declared.outcome.Outcome as outcome;
-ghost use Rattle.supply.specs.Timetable.{timetable};
+ghost use Rattle.supply.specs.Timetable.{timetable, LawfulTimetable};
 ghost use Rattle.supply.specs.Whole.{whole};
 
 use crate::answers::{RunEnd, Verdicts};
@@ -14,28 +14,28 @@ use supply::{Share, Timetable, Whole};
 // The verdict on lines on the whole processor.
 #[unsafe(no_mangle)]
 pub extern "C" fn bench_whole(lines: &[Figures], times: u32) -> Verdicts
-    ensures { (v : Option (Option ℕ)) × Judged whole lines.now v × (result ≡ verdicts_as v) }
+    ensures { (v : Option (Option ℕ)) × Judged (Unit {0}) whole lines.now v × (result ≡ verdicts_as v) }
 {
     judge(Whole, lines, times).into()
 }
 
 // The verdict on a timetable.
 fn on_timetable(length: u8, word: u64, lines: &[Figures], times: u32) -> Option<Option<u16>>
-    ensures { Judged (timetable length word) lines.now result }
+    ensures { Judged (LawfulTimetable length word) (timetable length word) lines.now result }
 {
     judge(Timetable::new(length, word).ok()?, lines, times)
 }
 
 #[unsafe(no_mangle)]
 pub extern "C" fn bench_timetable(length: u8, word: u64, lines: &[Figures], times: u32) -> Verdicts
-    ensures { (v : Option (Option ℕ)) × Judged (timetable length word) lines.now v × (result ≡ verdicts_as v) }
+    ensures { (v : Option (Option ℕ)) × Judged (LawfulTimetable length word) (timetable length word) lines.now v × (result ≡ verdicts_as v) }
 {
     on_timetable(length, word, lines, times).into()
 }
 
 // The verdict on a pile of one, two or three shares of `given` in `of` over the whole processor.
 fn on_pile(shares: u8, given: u8, of: u8, lines: &[Figures], times: u32) -> Option<Option<u16>>
-    ensures { Judged (piled given of shares) lines.now result }
+    ensures { Judged ((1 ≤ shares) × (shares ≤ 3) × Piles given of shares) (piled given of shares) lines.now result }
 {
     let one = Share::new(Whole, given, of).ok()?;
     if shares == 1 {
@@ -60,7 +60,7 @@ pub extern "C" fn bench_pile(
     lines: &[Figures],
     times: u32,
 ) -> Verdicts
-    ensures { (v : Option (Option ℕ)) × Judged (piled given of shares) lines.now v × (result ≡ verdicts_as v) }
+    ensures { (v : Option (Option ℕ)) × Judged ((1 ≤ shares) × (shares ≤ 3) × Piles given of shares) (piled given of shares) lines.now v × (result ≡ verdicts_as v) }
 {
     on_pile(shares, given, of, lines, times).into()
 }

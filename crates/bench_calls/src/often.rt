@@ -13,7 +13,7 @@ pub(crate) fn judge<S: Supply + Drop>(
     lines: &[Figures],
     times: u32,
 ) -> Option<Option<u16>>
-    ensures { Judged (S.meaning supply) lines.now result }
+    ensures { Judged (Unit {0}) (S.meaning supply) lines.now result }
 {
     let calls = enrolments(lines.try_into().ok()?);
     let (roster, verdict) = judged(supply, &calls);
