@@ -134,7 +134,7 @@ fn quick(bench: &mut Bench, rosters: &[[Row; LINES]]) -> f64 {
 fn verdicts(bench: &mut Bench) {
     heading(&[
         "verdict, by supply and watched deadlines",
-        "library us",
+        "library µs",
         "grown",
         "library : straight",
         "library : QPA",
@@ -192,7 +192,7 @@ fn repeated(times: u32, mut run: impl FnMut() -> runs::End) -> runs::End {
 fn job_runs(bench: &mut Bench) {
     heading(&[
         "run, by jobs",
-        "library us",
+        "library µs",
         "grown",
         "library : straight table",
         "heap : library",
@@ -226,7 +226,7 @@ fn job_runs(bench: &mut Bench) {
 const MOST_CUTS: usize = 418;
 
 fn reports(bench: &mut Bench) {
-    heading(&["report, by length of the sheet", "library us", "grown", "library : straight"]);
+    heading(&["report, by length of the sheet", "library µs", "grown", "library : straight"]);
     let mut before = None;
     for part in [8, 4, 2, 1] {
         let sheet = inputs::sheet(MOST_CUTS / part);
@@ -235,15 +235,15 @@ fn reports(bench: &mut Bench) {
             Side::single(STRAIGHT, FEW, || sheets::report(black_box(&sheet))),
         ];
         let times = bench.time("report", &mut sides);
-        let text = library::report(&sheet).replace('\n', ", ");
+        let text = library::report(&sheet).trim_end().replace('\n', ", ");
         let what = format!("{} bytes, {} cuts ({text})", sheet.len(), MOST_CUTS / part);
-        line(what.trim_end_matches(", "), times[0], before, &[Some(times[0] / times[1])]);
+        line(&what, times[0], before, &[Some(times[0] / times[1])]);
         before = Some(times[0]);
     }
 }
 
 fn enrolments(bench: &mut Bench) {
-    heading(&["open and enrol eight lines", "library us", "grown", "library : straight"]);
+    heading(&["open and enrol eight lines", "library µs", "grown", "library : straight"]);
     let at_hyperperiod = inputs::full_rosters(1, 1..=MOST_WATCHED, true)[0];
     let at_both = inputs::full_rosters(1, 250..=MOST_WATCHED, true)[0];
     let mut before = None;
