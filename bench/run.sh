@@ -6,7 +6,7 @@ set -eu
 cd "$(dirname "$0")/.."
 (cd crates/embed && rt lib)
 (cd crates/bench_calls && rt lib)
-export ZUCCHINICOVE_LIB="$PWD/crates/embed/out/libembed.a"
+export ZUCCHINICOVE_LIB="$PWD/crates/embed/out"
 export ZUCCHINICOVE_CALLS="$PWD/crates/bench_calls/out/libbench_calls.a"
 RUSTFLAGS="-C target-cpu=x86-64-v2" cargo build --offline --quiet --release \
     --manifest-path bench/Cargo.toml --target-dir target/bench

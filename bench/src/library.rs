@@ -1,7 +1,8 @@
-//! The library, through its C interface and through the calls that are there for this program alone.
+//! The library, through its Rust crate and through the calls that are there for this program alone.
 
 use crate::roster::Row;
 use crate::runs::{End, Job};
+use zucchinicove::REPORT_ROOM;
 
 #[repr(C)]
 struct Verdicts {
@@ -16,29 +17,10 @@ struct RunEnd {
     at: u16,
 }
 
-#[repr(C)]
-struct Refused {
-    number: u8,
-    layer: u8,
-    place: u32,
-    record: u32,
-    byte: u32,
-}
-
-#[repr(C)]
-struct ReportAnswer {
-    kind: u8,
-    length: usize,
-    refused: Refused,
-}
-
 const FITS: u8 = 1;
 const OVERLOADED: u8 = 2;
 const MET: u8 = 1;
 const MISSED: u8 = 2;
-
-/// Room for every report.
-const REPORT_ROOM: usize = 96;
 
 extern "C" {
     fn bench_whole(rows: *const Row, rows_length: usize, times: u32) -> Verdicts;
@@ -54,7 +36,6 @@ extern "C" {
         times: u32,
     ) -> RunEnd;
     fn bench_enrol(rows: *const Row, rows_length: usize) -> usize;
-    fn zucchinicove_report(sheet: *const u8, sheet_length: usize, out: *mut u8, out_length: usize) -> ReportAnswer;
 }
 
 /// A verdict in plain Rust.
@@ -96,6 +77,6 @@ pub fn enrol(rows: &[Row]) -> usize {
 
 pub fn report(sheet: &[u8]) -> String {
     let mut out = [0; REPORT_ROOM];
-    let told = unsafe { zucchinicove_report(sheet.as_ptr(), sheet.len(), out.as_mut_ptr(), out.len()) };
-    String::from_utf8_lossy(&out[..told.length]).into_owned()
+    let length = zucchinicove::report(sheet, &mut out).expect("the list has room for every report");
+    String::from_utf8_lossy(&out[..length]).into_owned()
 }
