@@ -7,7 +7,6 @@ pub mod Gathered
 pub mod Hyperperiod
 pub mod Lawful
 pub mod Least
-pub mod Leaving
 pub mod Listed
 pub mod Multiples
 pub mod Nothing

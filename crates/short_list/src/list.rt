@@ -1,4 +1,4 @@
-ghost use Rattle.std.specs.Prelude.{◌≡◌, ◌<◌, ◌≤◌, ◌+◌, [], ◌∷◌, ◌++◌, length, MatchOption, MatchResult, nat_le, slice_get, slice_set};
+ghost use Rattle.std.specs.Prelude.{◌≡◌, ◌<◌, ◌≤◌, ◌+◌, [], ◌∷◌, ◌++◌, not, length, filter, MatchOption, MatchResult, nat_le, slice_get, slice_set};
 ghost use Rattle.std.specs.List.{remove};
 
 use crate::full::Full;
@@ -116,5 +116,23 @@ impl<T: Copy, const N: usize> ShortList<T, N> {
         self.places.copy_within(at + 1..self.len, at);
         self.len -= 1;
         Some(old)
+    }
+}
+
+impl<T: Copy + PartialEq, const N: usize> ShortList<T, N> {
+    // The values other than one, in their order.
+    pub fn without(&self, value: T) -> ShortList<T, N>
+        ensures { result.items ≡ filter (λ x. not (T.eq x value)) self.now.items }
+    {
+        // The number of those kept stands beside the places, and goes into the list only at the end.
+        let mut places = self.places;
+        let mut kept = 0;
+        for x in self.as_slice() {
+            if *x != value {
+                places[kept] = *x;
+                kept += 1;
+            }
+        }
+        ShortList { places, len: kept }
     }
 }

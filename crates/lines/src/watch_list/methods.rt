@@ -41,14 +41,9 @@ impl WatchList {
     pub fn without(&self, d: u16) -> WatchList
         ensures { watched result ≡ without d (watched self.now) }
     {
-        // A loop: a short list is not collected, since it has room for so many only.
-        let mut rest = WatchList::none();
-        for x in self.as_slice() {
-            if *x != d {
-                rest.push(*x).unwrap();
-            }
+        WatchList {
+            deadlines: self.deadlines.without(d),
         }
-        rest
     }
 
     // One deadline more at the end; nothing changes where the list is full.
