@@ -17,11 +17,11 @@ impl Timetable {
         x / turn * self.word.count_ones() + left_over.count_ones()
     }
 
-    // How many of the n slots from a slot of the first turn on are given.
-    fn given_from(&self, start: u32, n: u16) -> u16
-        requires { start < self.now.length }
+    // How many of the n slots from a slot on are given.
+    fn given_from(&self, start: u8, n: u16) -> u16
         ensures { result ≡ from (bits self.now.length self.now.word) start n }
     {
+        let start = u32::from(start);
         (self.given_before(start + u32::from(n)) - self.given_before(start)) as u16
     }
 }
@@ -40,13 +40,13 @@ impl Supply for Timetable {
     }
 
     fn count(&self, phase: u32, n: u16) -> u16 {
-        self.given_from(phase % self.phases(), n)
+        self.given_from((phase % self.phases()) as u8, n)
     }
 
     fn least(&self, n: u16) -> (u16, u32) {
-        (1..self.phases())
-            .map(|phase| (self.count(phase, n), phase))
-            .fold((self.count(0, n), 0), |worst, next| {
+        (1..self.length)
+            .map(|phase| (self.given_from(phase, n), u32::from(phase)))
+            .fold((self.given_from(0, n), 0), |worst, next| {
                 if next.0 < worst.0 { next } else { worst }
             })
     }
