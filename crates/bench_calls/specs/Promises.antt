@@ -7,6 +7,8 @@ use Rattle.bench_calls.specs.declared.answers.RunEnd.{RunEnd}
 use Rattle.bench_calls.specs.declared.answers.Verdicts.{Verdicts}
 use Rattle.bench_calls.specs.declared.figures.Figures.{Figures}
 use Rattle.lines.specs.declared.row.Row.{Row}
+use Rattle.refusal.specs.Answers.{refusal_of}
+use Rattle.run.specs.Checks.{run_checks}
 use Rattle.run.specs.Promise.{ByLaw, MetExactly}
 use Rattle.run.specs.declared.job.Job.{Job}
 use Rattle.run.specs.declared.outcome.Outcome.{Outcome}
@@ -39,9 +41,9 @@ abbrev pub Judged : (made : Type 0) → Meaning → List Figures → Option (Opt
 Judged made m figures None = made → length figures ≡ 8 → ⊥
 Judged made m figures (Some verdict) = ExactVerdict m (lines_of figures) verdict
 
--- A run, if there is one, is by earliest deadline first, and says exactly whether all is met.
+-- There is a run of a full table where no check of it fails; it is by earliest deadline first, and says exactly whether all is met.
 abbrev pub Ran : List Figures → List Job → (slots : List ℕ) → Option Outcome → Type 0
-Ran figures jobs slots None = Unit {0}
+Ran figures jobs slots None = length figures ≡ 8 → refusal_of (run_checks (lines_of figures) jobs (length slots)) ≡ None → ⊥
 Ran figures jobs slots (Some o) = ByLaw whole 0 (lines_of figures) jobs slots o × MetExactly whole 0 (lines_of figures) jobs slots o
 
 -- For a full table there is a number of watched deadlines, that of a roster which the enrolments reach.
