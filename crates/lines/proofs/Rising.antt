@@ -3,9 +3,8 @@ use Rattle.std.proofs.Common.{◌≡◌, ℕ, zero, suc, ◌+◌, ◌-◌, ◌*�
 use Rattle.lines.proofs.Every.{some_at, some_none}
 use Rattle.lines.proofs.Least.{least_below, least_found}
 use Rattle.lines.specs.Demand.{Lawful, AllLawful, no_row, count}
-use Rattle.lines.specs.Rest.{some, due, deadline_after, deadlines, Soonest}
+use Rattle.lines.specs.Rest.{some, due, deadline_after, deadlines}
 use Rattle.lines.specs.declared.row.Row.{Row}
-use Rattle.std.specs.List.{reduce}
 use Rattle.std.proofs.lemmas.List.{length_push, length-map, get_or-map}
 use Rattle.std.proofs.lemmas.Bool.{cases_lt}
 use lib.Arith.{digits_mod}
@@ -67,21 +66,31 @@ module _ (rows : List Row) (after m : ℕ) (ok : AllLawful rows) (least : (i : �
       let row = get_or rows i no_row in
       rw is (after_later row (ok i w) after, some_at (due (deadline_after row after)) rows i w (after_due row (ok i w) after))
 
--- the least of the lines' next deadlines is the first deadline after an instant
-pub soonest_is : (rows : List Row) (after : ℕ) → AllLawful rows → Soonest rows after (reduce min (map (λ row. deadline_after row after) rows))
-unfolding some
-soonest_is [] after ok = λ k l. refl
-soonest_is (row ∷ rest) after ok =
-    let next = λ (row : Row). deadline_after row after in
-    let rows = row ∷ rest in
-    let place = least_found (next row) (map next rest) in
-    let least = least_below (next row) (map next rest) in
-    let m = fold min (next row) (map next rest) in
-    let at : (i : ℕ) → i < length rows → get_or (map next rows) i 0 ≡ next (get_or rows i no_row) = λ i l. get_or-map next rows i no_row 0 l in
-    let all : (i : ℕ) → i < length rows → m ≤ next (get_or rows i no_row) = λ i l. omega (arith, least i (omega (arith, length-map rest next)), at i l) in
-    let there : place.0 < length rows = omega (arith, place.1, length-map rest next) in
-    let is = least_due rows after m ok all place.0 there (sym place.2 ∙ at place.0 there) in
-    (is.0, is.1, quiet_before rows after m ok all)
+-- the least of an instant behind the last and the lines' next deadlines is the first deadline, or there is none up to the last
+module _ (rows : List Row) (after past : ℕ) (ok : AllLawful rows) where
+  abbrev next : Row → ℕ
+  next row = deadline_after row after
+
+  abbrev pub soonest : ℕ
+  soonest = fold min past (map next rows)
+
+  at : (i : ℕ) → i < length rows → get_or (map next rows) i 0 ≡ next (get_or rows i no_row)
+  at i l = get_or-map next rows i no_row 0 l
+
+  all : (i : ℕ) → i < length rows → soonest ≤ next (get_or rows i no_row)
+  all i l = omega (arith, least_below past (map next rows) (suc i) (omega (arith, length-map rows next)), at i l)
+
+  pub soonest_before : (k : ℕ) → after < k → k < soonest → some (due k) rows ≡ false
+  soonest_before = quiet_before rows after soonest ok all
+
+  pub soonest_due : soonest < past → (after < soonest) × (some (due soonest) rows ≡ true)
+  soonest_due l = found (least_found past (map next rows))
+    where
+      found : (i : ℕ) × (i < length (past ∷ map next rows)) × (get_or (past ∷ map next rows) i 0 ≡ soonest) → (after < soonest) × (some (due soonest) rows ≡ true)
+      found (zero, w, is) = absurd (omega arith)
+      found (suc i, w, is) =
+          let there : i < length rows = omega (arith, length-map rows next) in
+          least_due rows after soonest ok all i there (sym is ∙ at i there)
 
 -- no line has a deadline after a and up to b
 abbrev pub Quiet : List Row → ℕ → ℕ → Type 0

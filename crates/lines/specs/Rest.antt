@@ -59,9 +59,3 @@ abbrev pub Next : List Row → (after last : ℕ) → Option ℕ → Type 0
 Next rows after last None = (k : ℕ) → after < k → k ≤ last → some (due k) rows ≡ false
 Next rows after last (Some d) =
     (after < d) × (d ≤ last) × (some (due d) rows ≡ true) × ((k : ℕ) → after < k → k < d → some (due k) rows ≡ false)
-
--- The first deadline after an instant, if there is a line.
-abbrev pub Soonest : List Row → (after : ℕ) → Option ℕ → Type 0
-Soonest rows after None = (k : ℕ) → after < k → some (due k) rows ≡ false
-Soonest rows after (Some d) =
-    (after < d) × (some (due d) rows ≡ true) × ((k : ℕ) → after < k → k < d → some (due k) rows ≡ false)

@@ -1,24 +1,20 @@
 // The deadlines of lines in rising order, by the next one of each line.
 ghost use Rattle.std.specs.Prelude.{◌≡◌, ◌<◌, length, MatchOption};
 ghost use Rattle.lines.specs.Of.{watched};
-ghost use Rattle.lines.specs.Rest.{Next, Soonest, deadlines};
+ghost use Rattle.lines.specs.Rest.{Next, deadlines};
 ghost use Rattle.lines.specs.Left.{rows_left};
 
 use crate::line_iter::LineIter;
 use crate::watch_list::WatchList;
 
-// The soonest of the lines' next deadlines after an instant, if there is a line.
-fn soonest(lines: LineIter<'_>, after: u16) -> Option<u32>
-    ensures { Soonest (rows_left lines.entry) after result }
-{
-    lines.map(|line| line.deadline_after(after)).min()
-}
-
 // The first deadline after an instant and up to an end, if there is one.
 pub(crate) fn next_deadline(lines: LineIter<'_>, after: u16, end: u16) -> Option<u16>
     ensures { Next (rows_left lines.entry) after «end» result }
 {
-    let first = soonest(lines, after)?;
+    let past = u32::from(end) + 1;
+    let first = lines
+        .map(|line| line.deadline_after(after))
+        .fold(past, |first, d| first.min(d));
     u16::try_from(first).ok().filter(|d| *d <= end)
 }
 
