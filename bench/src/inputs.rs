@@ -3,7 +3,7 @@
 use crate::roster::{hyperperiod, Roster, Row};
 use crate::runs::Job;
 use crate::sheets::Sheet;
-use crate::supply::{Supply, Whole};
+use crate::supply::{Named, Supply, Whole};
 
 pub const LINES: usize = 8;
 
@@ -93,16 +93,16 @@ pub fn overloaded(rows: &[Row; LINES]) -> [Row; LINES] {
 /// The period of the lines of the job lists: so many slots for each eight jobs.
 const ROUND: u16 = 124;
 
-/// The lines of the job lists, which nearly use up the processor.
-pub fn busy_lines() -> [Row; LINES] {
-    std::array::from_fn(|line| Row { period: ROUND, deadline: 100 + line as u16, cost: 12 })
+/// The lines of the job lists.
+pub fn busy_lines(cost: u16) -> [Row; LINES] {
+    std::array::from_fn(|line| Row { period: ROUND, deadline: 100 + line as u16, cost })
 }
 
 /// A list of jobs: each line brings one in every round, a little later than the line before it.
-pub fn jobs(many: usize) -> Vec<Job> {
+pub fn jobs(many: usize, cost: u16) -> Vec<Job> {
     let job = |place: usize| {
         let line = place % LINES;
-        Job { line: line as u8, release: (place / LINES) as u16 * ROUND + 3 * line as u16, cost: 12 }
+        Job { line: line as u8, release: (place / LINES) as u16 * ROUND + 3 * line as u16, cost }
     };
     (0..many).map(job).collect()
 }
@@ -119,10 +119,19 @@ pub fn most_watched() -> [Row; LINES] {
     })
 }
 
+/// A sheet of lines without cuts.
+pub fn plain_sheet(supply: Named, rows: &[Row]) -> Vec<u8> {
+    let mut sheet = Sheet::on(supply);
+    for row in rows {
+        sheet.line(*row);
+    }
+    sheet.end()
+}
+
 /// A sheet of eight lines and a number of cuts with eight cites each: after each line from the second on, each of which
 /// brings back the full list, the deadlines of the second are cut from the last down.
-pub fn sheet(cuts: usize) -> Vec<u8> {
-    let mut sheet = Sheet::on_whole();
+pub fn sheet(supply: Named, cuts: usize) -> Vec<u8> {
+    let mut sheet = Sheet::on(supply);
     let mut left = cuts;
     for (line, row) in most_watched().into_iter().enumerate() {
         sheet.line(row);

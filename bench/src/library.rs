@@ -2,7 +2,7 @@
 
 use crate::roster::Row;
 use crate::runs::{End, Job};
-use zucchinicove::REPORT_ROOM;
+use zucchinicove::{Outcome, REPORT_ROOM};
 
 #[repr(C)]
 struct Verdicts {
@@ -67,6 +67,15 @@ pub fn run(rows: &[Row], jobs: &[Job], slots: &mut [u16], times: u32) -> End {
         MET => None,
         MISSED => Some((told.job, told.at)),
         kind => panic!("no run: {kind}"),
+    }
+}
+
+/// Runs a list on the lines of a sheet.
+pub fn run_on(sheet: &[u8], phase: u32, jobs: &[Job], slots: &mut [u16]) -> End {
+    match zucchinicove::run(sheet, phase, jobs, slots) {
+        Ok(Outcome::Met) => None,
+        Ok(Outcome::Missed { job, at }) => Some((job, at)),
+        Err(refused) => panic!("no run: {refused}"),
     }
 }
 

@@ -13,7 +13,7 @@ use inputs::{LINES, LONGEST_HYPERPERIOD, MOST_WATCHED};
 use roster::{hyperperiod, Row};
 use std::fmt::Debug;
 use std::hint::black_box;
-use supply::{Share, Supply, Timetable, Whole};
+use supply::{Named, Share, Supply, Timetable, Whole};
 use timing::{medians, Side};
 
 /// The timetable: three slots in four are given.
@@ -26,9 +26,16 @@ const OF: u8 = 64;
 /// How often an answer is made within one repetition.
 const OFTEN: u32 = 200;
 
-/// A slow answer, and the run of the longest list.
+/// A slow answer, and a report or the run of the longest list.
 const SELDOM: u32 = 1;
 const FEW: u32 = 5;
+
+/// The longest job list.
+const MOST_JOBS: usize = 2048;
+
+/// What each job costs on the whole processor, where eight take 96 of 124 slots, and on a part of it.
+const LONG_JOB: u16 = 12;
+const SHORT_JOB: u16 = 8;
 
 /// The rosters that are judged for one figure.
 const ROSTERS: usize = 5;
@@ -112,8 +119,9 @@ fn verdicts_on<S: Supply + Copy>(
     means(&all)
 }
 
-/// The quick test on the same lines, on the whole processor.
-fn quick(bench: &mut Bench, rosters: &[[Row; LINES]]) -> f64 {
+/// How the library's verdict on the whole processor stands to the quick test on the same lines: with the roster there, and
+/// with all lines enrolled for one verdict. The quick test finds its bound anew each time.
+fn quick(bench: &mut Bench, rosters: &[[Row; LINES]]) -> [Option<f64>; 2] {
     let mut all = Vec::new();
     for rows in rosters {
         let rows = inputs::loaded(Whole, rows);
@@ -122,13 +130,15 @@ fn quick(bench: &mut Bench, rosters: &[[Row; LINES]]) -> f64 {
         let sides = |rows: [Row; LINES]| {
             [
                 Side::often(LIBRARY, OFTEN, move |times| library::whole(&rows, times).is_none()),
+                Side::single("library with enrolments", OFTEN, move || library::whole(black_box(&rows), 1).is_none()),
                 Side::single("QPA", OFTEN, move || qpa::fits(black_box(&rows), all_slots)),
             ]
         };
         bench.compare("quick test past the load", &mut sides(past));
         all.push(bench.time("quick test", &mut sides(rows)));
     }
-    means(&all)[1]
+    let times = means(&all);
+    [Some(times[0] / times[2]), Some(times[1] / times[2])]
 }
 
 fn verdicts(bench: &mut Bench) {
@@ -138,6 +148,7 @@ fn verdicts(bench: &mut Bench) {
         "grown",
         "library : straight",
         "library : QPA",
+        "library with enrolments : QPA",
     ]);
     let one = Share { below: Whole, s: GIVEN, f: OF };
     let two = Share { below: one, s: GIVEN, f: OF };
@@ -156,9 +167,9 @@ fn verdicts(bench: &mut Bench) {
                 3 => ("2 shares", verdicts_on(bench, rosters, two, &pile(2))),
                 _ => ("3 shares", verdicts_on(bench, rosters, three, &pile(3))),
             };
-            let quick = (supply == 0).then(|| quick(bench, rosters));
+            let [quick, from_rows] = if supply == 0 { quick(bench, rosters) } else { [None, None] };
             let what = format!("{name}, {} to {}", size.start(), size.end());
-            line(&what, times[0], before, &[Some(times[0] / times[1]), quick.map(|quick| times[0] / quick)]);
+            line(&what, times[0], before, &[Some(times[0] / times[1]), quick, from_rows]);
             before = Some(times[0]);
         }
     }
@@ -198,17 +209,18 @@ fn job_runs(bench: &mut Bench) {
         "heap : library",
         "slot by slot over all jobs : library",
     ]);
-    let rows = inputs::busy_lines();
+    let rows = inputs::busy_lines(LONG_JOB);
     let mut before = None;
-    for many in [32, 64, 128, 256, 512, 1024, 2048] {
-        let jobs = inputs::jobs(many);
+    for many in [32, 64, 128, 256, 512, 1024, MOST_JOBS] {
+        let jobs = inputs::jobs(many, LONG_JOB);
+        let often = FEW * (MOST_JOBS / many) as u32;
         let last = usize::from(runs::checked(&rows, &jobs).expect("a lawful list"));
         let mut sides = [
-            run_side(LIBRARY, FEW, last, |slots, times| library::run(&rows, &jobs, slots, times)),
-            run_side(STRAIGHT, FEW, last, |slots, times| {
+            run_side(LIBRARY, often, last, |slots, times| library::run(&rows, &jobs, slots, times)),
+            run_side(STRAIGHT, often, last, |slots, times| {
                 repeated(times, || runs::with_table(&Whole, 0, &rows, black_box(&jobs), slots))
             }),
-            run_side("heap", FEW, last, |slots, times| {
+            run_side("heap", often, last, |slots, times| {
                 repeated(times, || runs::with_heap(&Whole, 0, &rows, black_box(&jobs), slots))
             }),
             run_side("slot by slot", SELDOM, last, |slots, times| {
@@ -222,23 +234,64 @@ fn job_runs(bench: &mut Bench) {
     }
 }
 
+/// The supplies of sheets that take longer than the whole processor.
+fn slow_supplies() -> [(&'static str, Named); 2] {
+    let share = Share { below: TIMETABLE, s: GIVEN, f: OF };
+    [("timetable of 64", Named::Timetable(TIMETABLE)), ("share of a timetable of 64", Named::SharedTimetable(share))]
+}
+
+/// Runs of the lines of a sheet in the last phase of its supply; each reads the sheet first.
+fn sheet_runs(bench: &mut Bench) {
+    heading(&["run on a sheet's lines, by supply and jobs", "library µs", "grown", "library : straight table"]);
+    let rows = inputs::busy_lines(SHORT_JOB);
+    for (name, supply) in slow_supplies() {
+        let sheet = inputs::plain_sheet(supply, &rows);
+        let phase = supply.phases() - 1;
+        let mut before = None;
+        for many in [32, 256, MOST_JOBS] {
+            let jobs = inputs::jobs(many, SHORT_JOB);
+            let last = usize::from(runs::checked(&rows, &jobs).expect("a lawful list"));
+            let often = FEW * (MOST_JOBS / many) as u32;
+            let mut sides = [
+                run_side(LIBRARY, often, last, |slots, times| {
+                    repeated(times, || library::run_on(&sheet, phase, black_box(&jobs), slots))
+                }),
+                run_side(STRAIGHT, often, last, |slots, times| {
+                    repeated(times, || sheets::run_on(&sheet, phase, black_box(&jobs), slots))
+                }),
+            ];
+            let times = bench.time("run on a sheet's lines", &mut sides);
+            line(&format!("{name}, {many} jobs, {last} slots"), times[0], before, &[Some(times[0] / times[1])]);
+            before = Some(times[0]);
+        }
+    }
+}
+
 /// The most cuts of eight cites that a sheet of eight lines has room for.
 const MOST_CUTS: usize = 418;
 
+/// The report on a sheet with some cuts.
+fn report(bench: &mut Bench, supply: Named, name: &str, cuts: usize, before: Option<f64>) -> f64 {
+    let sheet = inputs::sheet(supply, cuts);
+    let mut sides = [
+        Side::single(LIBRARY, FEW, || library::report(black_box(&sheet))),
+        Side::single(STRAIGHT, FEW, || sheets::report(black_box(&sheet))),
+    ];
+    let times = bench.time("report", &mut sides);
+    let text = library::report(&sheet).trim_end().replace('\n', ", ");
+    let what = format!("{name}, {} bytes, {cuts} cuts ({text})", sheet.len());
+    line(&what, times[0], before, &[Some(times[0] / times[1])]);
+    times[0]
+}
+
 fn reports(bench: &mut Bench) {
-    heading(&["report, by length of the sheet", "library µs", "grown", "library : straight"]);
+    heading(&["report, by supply and length of the sheet", "library µs", "grown", "library : straight"]);
     let mut before = None;
     for part in [8, 4, 2, 1] {
-        let sheet = inputs::sheet(MOST_CUTS / part);
-        let mut sides = [
-            Side::single(LIBRARY, FEW, || library::report(black_box(&sheet))),
-            Side::single(STRAIGHT, FEW, || sheets::report(black_box(&sheet))),
-        ];
-        let times = bench.time("report", &mut sides);
-        let text = library::report(&sheet).trim_end().replace('\n', ", ");
-        let what = format!("{} bytes, {} cuts ({text})", sheet.len(), MOST_CUTS / part);
-        line(&what, times[0], before, &[Some(times[0] / times[1])]);
-        before = Some(times[0]);
+        before = Some(report(bench, Named::Whole(Whole), "whole", MOST_CUTS / part, before));
+    }
+    for (name, supply) in slow_supplies() {
+        report(bench, supply, name, MOST_CUTS, None);
     }
 }
 
@@ -265,6 +318,7 @@ fn main() {
     let mut bench = Bench { repetitions, differ: 0 };
     verdicts(&mut bench);
     job_runs(&mut bench);
+    sheet_runs(&mut bench);
     reports(&mut bench);
     enrolments(&mut bench);
     println!("\nanswers that differ: {}", bench.differ);

@@ -4,14 +4,7 @@ use crate::roster::Row;
 use crate::supply::Supply;
 use std::cmp::Reverse;
 use std::collections::BinaryHeap;
-
-#[repr(C)]
-#[derive(Clone, Copy, Debug)]
-pub struct Job {
-    pub line: u8,
-    pub release: u16,
-    pub cost: u16,
-}
+pub use zucchinicove::Job;
 
 pub const NOT_GIVEN: u16 = 65_535;
 

@@ -1,6 +1,7 @@
 //! Sheets in straight Rust: written for this program, and read into a roster as the library does.
 
 use crate::roster::{first_rest, Roster, Row};
+use crate::runs::{with_table, End, Job};
 use crate::supply::{Named, Share, Timetable, Whole};
 
 const FIRST_LENGTH: usize = 13;
@@ -9,6 +10,9 @@ const CUT_LENGTH: usize = 7;
 const CITE_LENGTH: usize = 4;
 const LONGEST: usize = 16_384;
 
+/// What stands for the whole processor.
+const NO_TIMETABLE: Timetable = Timetable { length: 0, word: 0 };
+
 /// The sheet that is being written, with the number of its records.
 pub struct Sheet {
     bytes: Vec<u8>,
@@ -16,10 +20,18 @@ pub struct Sheet {
 }
 
 impl Sheet {
-    /// A sheet on the whole processor.
-    pub fn on_whole() -> Sheet {
+    /// A sheet on a supply.
+    pub fn on(supply: Named) -> Sheet {
+        let (timetable, s, f) = match supply {
+            Named::Whole(_) => (NO_TIMETABLE, 0, 0),
+            Named::Timetable(timetable) => (timetable, 0, 0),
+            Named::SharedWhole(Share { s, f, .. }) => (NO_TIMETABLE, s, f),
+            Named::SharedTimetable(Share { below, s, f }) => (below, s, f),
+        };
         let mut bytes = b"SU".to_vec();
-        bytes.resize(FIRST_LENGTH, 0);
+        bytes.push(timetable.length);
+        bytes.extend(timetable.word.to_be_bytes());
+        bytes.extend([s, f]);
         Sheet { bytes, records: 1 }
     }
 
@@ -73,7 +85,7 @@ fn number(bytes: &[u8], at: usize) -> u16 {
 }
 
 /// The roster that a sheet leaves, where it is accepted.
-fn read(sheet: &[u8]) -> Option<Roster<Named>> {
+pub fn read(sheet: &[u8]) -> Option<Roster<Named>> {
     if sheet.len() > LONGEST || sheet.get(..2)? != b"SU" {
         return None;
     }
@@ -113,4 +125,10 @@ pub fn report(sheet: &[u8]) -> String {
         Some(deadline) => format!("overloaded {deadline}"),
     };
     format!("lines {lines}\nrest {rest}\nwatched {watched}\n{verdict}\n")
+}
+
+/// Runs a list on the lines of a sheet that is accepted.
+pub fn run_on(sheet: &[u8], phase: u32, jobs: &[Job], slots: &mut [u16]) -> End {
+    let roster = read(sheet).expect("a lawful sheet");
+    with_table(&roster.supply, phase, roster.rows(), jobs, slots)
 }
