@@ -1,5 +1,5 @@
 -- The report on a sheet: its text, and when it is handed over. Assumes nothing.
-use Rattle.std.specs.Prelude.{◌≡◌, ℕ, List, [], ◌∷◌, ◌++◌, length, Some, None, codes, decimal, Option, Result}
+use Rattle.std.specs.Prelude.{◌≡◌, ◌≤◌, ℕ, List, [], ◌∷◌, ◌++◌, length, Some, None, codes, decimal, Option, Result}
 use Rattle.analysis.specs.History.{Call, Reached}
 use Rattle.analysis.specs.Verdict.{Verdict, ExactVerdict}
 use Rattle.lines.specs.Rest.{first_rest}
@@ -52,9 +52,10 @@ pub data Reports (bytes : List ℕ) : List ℕ → Type 0 where
   accepted : (roster : Roster Named) (verdict : Option ℕ) → Leaves bytes roster → Verdict (named roster.supply) (rows_in roster) (watched_in roster) verdict → ExactVerdict (named roster.supply) (rows_in roster) verdict → Reports bytes (figures_text (rows_in roster) (watched_in roster) verdict)
   refused : (e : SheetRefusal) → TurnedDown bytes e → Reports bytes (refusal_text e)
 
--- A report is written over the front of a lent list, if that has room for it.
+-- A report is at most 96 bytes long, and is written over the front of a lent list, if that has room for it.
 pub record Reported (bytes before after : List ℕ) (r : Result ℕ Refusal) : Type 0 where
   pub text : List ℕ
   pub reports : Reports bytes text
+  pub brief : length text ≤ 96
   pub answered : Answered r (room_check (length text) (length before) ∷ []) (λ n. n ≡ length text)
   pub list_holds_text : after ≡ left r (fronted text before) before

@@ -32,6 +32,7 @@ impl Draft {
     // Writes the bytes over the front of a list and answers their number, if it has room for them.
     pub(crate) fn hand_over(&self, list: &mut [u8]) -> Result<usize, Refusal>
         ensures answer { Answered result (room_check (length (drafted self.now)) (length list.old) ∷ []) (λ n. n ≡ length (drafted self.now)) }
+        ensures room { length (drafted self.now) ≤ 96 }
         ensures list { list.new ≡ left result (fronted (drafted self.now) list.old) list.old }
     {
         let bytes = self.bytes.as_slice();

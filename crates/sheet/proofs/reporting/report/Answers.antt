@@ -9,6 +9,7 @@ returns-in-Ok c =
     record {
       text = _;
       reports = subst (λ text. Reports c.args.bytes.now text) (sym tells.text_is) (accepted c.in-Ok.roster tells.verdict leaves tells.says (tells.exact _ leaves.history));
+      brief = c.hand_over.ensures.room;
       answered = c.hand_over.ensures.answer;
       list_holds_text = c.hand_over.ensures.list;
     }
@@ -17,6 +18,7 @@ pub returns-in-Err : goal.returns-in-Err
 returns-in-Err c = record {
   text = _;
   reports = subst (λ text. Reports c.args.bytes.now text) (sym c.refusal_line.ensures) (refused c.in-Err.refusal c.in-Err.ensures);
+  brief = c.hand_over-in-Err.ensures.room;
   answered = c.hand_over-in-Err.ensures.answer;
   list_holds_text = c.hand_over-in-Err.ensures.list;
 }
