@@ -1,0 +1,27 @@
+#!/bin/sh
+# Proves and builds the console and the sheet program, gives them each visit and each sheet that lies here, and holds what they
+# print to what is stored beside it.
+set -eu
+cd "$(dirname "$0")/.."
+out=target/examples
+mkdir -p "$out"
+
+# One run builds the program; the copies of it then answer at once.
+for program in console report; do
+    (cd "crates/$program" && rt run </dev/null >/dev/null)
+done
+
+# Gives a program an example, and compares what it prints.
+compare() {
+    program=$1 input=$2 stored=$3
+    "crates/$program/out/$program" <"$input" >"$out/printed"
+    cmp "$out/printed" "$stored"
+    echo "$input: as stored"
+}
+
+for visit in examples/*.txt; do
+    compare console "$visit" "${visit%.txt}.out"
+done
+for sheet in examples/*.sheet; do
+    compare report "$sheet" "${sheet%.sheet}.report"
+done
