@@ -45,7 +45,12 @@ pub(crate) struct RunAnswer {
 }
 
 extern "C" {
-    pub(crate) fn zucchinicove_report(sheet: *const u8, sheet_length: usize, out: *mut u8, out_length: usize) -> ReportAnswer;
+    pub(crate) fn zucchinicove_report(
+        sheet: *const u8,
+        sheet_length: usize,
+        out: *mut u8,
+        out_length: usize,
+    ) -> ReportAnswer;
 
     pub(crate) fn zucchinicove_verdict(sheet: *const u8, sheet_length: usize) -> VerdictAnswer;
 

@@ -53,7 +53,11 @@ impl From<Refused> for Refusal {
 
 impl fmt::Display for Refusal {
     fn fmt(&self, f: &mut fmt::Formatter) -> fmt::Result {
-        write!(f, "refused {} {} place {} record {} byte {}", self.number, self.layer, self.place, self.record, self.byte)
+        write!(
+            f,
+            "refused {} {} place {} record {} byte {}",
+            self.number, self.layer, self.place, self.record, self.byte
+        )
     }
 }
 
