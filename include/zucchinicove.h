@@ -34,7 +34,9 @@ extern "C" {
 #define ZUCCHINICOVE_LAYER_RUN 3
 #define ZUCCHINICOVE_LAYER_SHEET 4
 
-/* The entries of a slot list: idle, not given, and else 1 + the place of the job that runs. */
+/* The entries of a slot list: 0 where the slot is given and no job runs, 1 + the place of the job that runs, with places from
+ * 0, and 65,535 where the slot is not given. From the instant at which a missed run stops, or from the largest deadline on
+ * where all is met, every entry is 65,535, also on the whole processor. */
 #define ZUCCHINICOVE_SLOT_IDLE 0
 #define ZUCCHINICOVE_SLOT_NOT_GIVEN 65535
 
@@ -95,11 +97,12 @@ zucchinicove_report_answer zucchinicove_report(const uint8_t *sheet, size_t shee
  * sheet is. */
 zucchinicove_verdict_answer zucchinicove_verdict(const uint8_t *sheet, size_t sheet_length);
 
-/* Runs a list of jobs of the sheet's lines in a phase of its supply, by earliest deadline first, and fills slots. A phase
- * past the last stands for its remainder. All met is answered exactly when the slots meet every deadline; missed means that
- * no schedule meets the list in this phase. Refused where the sheet is, with its record and byte; and then, with layer run
- * and record 0, for the jobs (14, 15, 16) and for a slot list shorter than the largest deadline (13, with the length needed
- * as its place). A refusal leaves slots as they were. */
+/* Runs a list of jobs of the sheet's lines in a phase of its supply, by earliest deadline first, and fills all of slots: the
+ * entries from the stop of a missed run on, or from the largest deadline on where all is met, are 65,535, also on the whole
+ * processor. A phase past the last stands for its remainder. All met is answered exactly when the slots meet every deadline;
+ * missed means that no schedule meets the list in this phase. Refused where the sheet is, with its record and byte; and
+ * then, with layer run and record 0, for the jobs (14, 15, 16) and for a slot list shorter than the largest deadline (13,
+ * with the length needed as its place). A refusal leaves slots as they were. */
 zucchinicove_run_answer zucchinicove_run(const uint8_t *sheet, size_t sheet_length, uint32_t phase,
                                          const zucchinicove_job *jobs, size_t jobs_length,
                                          uint16_t *slots, size_t slots_length);

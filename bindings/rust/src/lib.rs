@@ -71,7 +71,10 @@ pub fn verdict(sheet: &[u8]) -> Result<Verdict, Refusal> {
     }
 }
 
-/// Runs a list of jobs of a sheet's lines in a phase of its supply, and fills the slot list.
+/// Runs a list of jobs of a sheet's lines in a phase of its supply, and fills the whole slot list. An entry is 0 where the slot
+/// is given and no job runs, 1 + the place of the job that runs, with places from 0, and 65,535 where the slot is not given.
+/// From the instant at which a missed run stops, or from the largest deadline on where all is met, every entry is 65,535, also
+/// on the whole processor.
 pub fn run(sheet: &[u8], phase: u32, jobs: &[Job], slots: &mut [u16]) -> Result<Outcome, Refusal> {
     // The lists live through the call, only the slots may be written, and a job is laid out as in C.
     let answer = unsafe {
