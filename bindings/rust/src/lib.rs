@@ -9,6 +9,22 @@ use std::fmt;
 /// Every report fits a list of this length.
 pub const REPORT_ROOM: usize = 96;
 
+/// The longest sheet, in bytes.
+pub const LONGEST_SHEET: usize = 16_384;
+
+/// The most jobs of a run.
+pub const MOST_JOBS: usize = 2_048;
+
+/// The last instant at which a job may be due. A slot list of this length is long enough for every run.
+pub const LAST_DEADLINE: usize = 32_000;
+
+/// The entry of a slot that is given and in which no job runs.
+pub const SLOT_IDLE: u16 = 0;
+
+/// The entry of a slot that is not given. Every entry from the stop of a missed run on, or from the largest deadline on where
+/// all is met, is this one, too.
+pub const SLOT_NOT_GIVEN: u16 = 65_535;
+
 /// A job: its line's number, the instant of its release, and its cost in slots.
 #[repr(C)]
 #[derive(Clone, Copy, PartialEq, Eq, Debug)]
@@ -71,10 +87,10 @@ pub fn verdict(sheet: &[u8]) -> Result<Verdict, Refusal> {
     }
 }
 
-/// Runs a list of jobs of a sheet's lines in a phase of its supply, and fills the whole slot list. An entry is 0 where the slot
-/// is given and no job runs, 1 + the place of the job that runs, with places from 0, and 65,535 where the slot is not given.
-/// From the instant at which a missed run stops, or from the largest deadline on where all is met, every entry is 65,535, also
-/// on the whole processor.
+/// Runs a list of jobs of a sheet's lines in a phase of its supply, and fills the whole slot list. An entry is
+/// [`SLOT_IDLE`], 0, where the slot is given and no job runs; 1 + the place of the job that runs, with places from 0; and
+/// [`SLOT_NOT_GIVEN`], 65,535, where the slot is not given. From the instant at which a missed run stops, or from the largest
+/// deadline on where all is met, every entry is 65,535, also on the whole processor.
 pub fn run(sheet: &[u8], phase: u32, jobs: &[Job], slots: &mut [u16]) -> Result<Outcome, Refusal> {
     // The lists live through the call, only the slots may be written, and a job is laid out as in C.
     let answer = unsafe {
