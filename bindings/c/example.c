@@ -41,6 +41,17 @@ static void print_verdict(const uint8_t *sheet, size_t length)
         print_refused(answer.refused);
 }
 
+/* What an entry of a slot list tells: the place of the job that runs, idle, or a stroke where the slot is not given. */
+static void print_entry(uint16_t entry)
+{
+    if (entry == ZUCCHINICOVE_SLOT_IDLE)
+        printf(" idle");
+    else if (entry == ZUCCHINICOVE_SLOT_NOT_GIVEN)
+        printf(" -");
+    else
+        printf(" %u", entry - 1u);
+}
+
 static void print_run(const uint8_t *sheet, size_t length, uint32_t phase, const zucchinicove_job *jobs, size_t jobs_length,
                       uint16_t *slots, size_t slots_length)
 {
@@ -56,7 +67,7 @@ static void print_run(const uint8_t *sheet, size_t length, uint32_t phase, const
         printf("job %u missed at %u\n", answer.job, answer.at);
     printf("slots");
     for (size_t s = 0; s < slots_length; s++)
-        printf(" %u", slots[s]);
+        print_entry(slots[s]);
     printf("\n");
 }
 
@@ -69,17 +80,17 @@ int main(void)
     static const zucchinicove_job shorter[] = {{0, 0, 3}, {1, 0, 2}, {2, 0, 3}, {0, 7, 3}};
     static const zucchinicove_job longer[] = {{0, 0, 3}, {1, 0, 3}, {2, 0, 4}, {0, 7, 3}};
     static const zucchinicove_job single[] = {{0, 0, 2}};
-    uint16_t slots[12] = {0};
+    uint16_t slots[14] = {0};
 
     printf("three lines\n");
     print_report(fitting, sizeof fitting);
     print_verdict(fitting, sizeof fitting);
-    print_run(fitting, sizeof fitting, 0, shorter, 4, slots, 12);
+    print_run(fitting, sizeof fitting, 0, shorter, 4, slots, 14);
 
     printf("\nthe same lines with longer jobs\n");
     print_report(overloaded, sizeof overloaded);
     print_verdict(overloaded, sizeof overloaded);
-    print_run(overloaded, sizeof overloaded, 0, longer, 4, slots, 12);
+    print_run(overloaded, sizeof overloaded, 0, longer, 4, slots, 14);
 
     printf("\na line on a timetable, in phase 2\n");
     print_report(timetable, sizeof timetable);
