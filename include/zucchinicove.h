@@ -2,7 +2,10 @@
  *
  * Every function answers on everything that it may be handed: it ends, reads nothing but the lists that it is lent,
  * writes nothing but the list that it is to fill, and keeps nothing. It does not allocate. docs/EMBEDDING.md says what is
- * promised, and what the caller has to keep; docs/SHEET.md has the format of a sheet, docs/REFUSALS.md the reasons. */
+ * promised, and what the caller has to keep; docs/SHEET.md has the format of a sheet, docs/REFUSALS.md the reasons.
+ *
+ * The archive is built for Linux on x86-64-v2, that is x86-64 with SSE4.2 and POPCNT. On an older processor a call may stop
+ * the program with an illegal instruction. */
 #ifndef ZUCCHINICOVE_H
 #define ZUCCHINICOVE_H
 
