@@ -24,12 +24,13 @@ static const char good_report[] = "lines 3\nrest 62\nwatched 18\nfits\n";
 
 static unsigned checks, failed;
 
-static void check(int holds, const char *what)
+/* Counts a check, and says of which case and of what in it where it fails. */
+static void check(int holds, const char *what, const char *which)
 {
     checks++;
     if (!holds) {
         failed++;
-        printf("failed: %s\n", what);
+        printf("failed: %s: %s\n", what, which);
     }
 }
 
@@ -80,14 +81,16 @@ static void try_report(const uint8_t *sheet, size_t length, const char *text, si
     size_t needed = strlen(text);
     zucchinicove_report_answer answer = zucchinicove_report(lent, length, room > 0 ? out : NULL, room);
     if (needed <= room) {
-        check(answer.kind == ZUCCHINICOVE_WRITTEN && answer.length == needed && same(answer.refused, 0, 0, 0, 0, 0), what);
-        check(memcmp(out, text, needed) == 0 && marked(out, (ptrdiff_t)needed, (ptrdiff_t)room), what);
+        check(answer.kind == ZUCCHINICOVE_WRITTEN && answer.length == needed, what, "the answer of the report");
+        check(same(answer.refused, 0, 0, 0, 0, 0), what, "the refusal of the report");
+        check(memcmp(out, text, needed) == 0, what, "the text of the report");
+        check(marked(out, (ptrdiff_t)needed, (ptrdiff_t)room), what, "the bytes behind the text of the report");
     } else {
-        check(answer.kind == ZUCCHINICOVE_REFUSED && answer.length == 0, what);
-        check(same(answer.refused, 13, ZUCCHINICOVE_LAYER_SHEET, (unsigned)needed, 0, 0), what);
-        check(marked(out, 0, (ptrdiff_t)room), what);
+        check(answer.kind == ZUCCHINICOVE_REFUSED && answer.length == 0, what, "the answer of the report");
+        check(same(answer.refused, 13, ZUCCHINICOVE_LAYER_SHEET, (unsigned)needed, 0, 0), what, "the refusal of the report");
+        check(marked(out, 0, (ptrdiff_t)room), what, "the list that a refused report leaves");
     }
-    check(guards_stand(out, room), what);
+    check(guards_stand(out, room), what, "the guards of the report");
     free(out - GUARD);
     free(lent);
 }
@@ -99,11 +102,12 @@ static void try_sheet(const uint8_t *sheet, size_t length, unsigned number, unsi
     uint8_t *slots = guarded(24);
     zucchinicove_verdict_answer verdict = zucchinicove_verdict(lent, length);
     zucchinicove_run_answer run = zucchinicove_run(lent, length, 0, NULL, 0, (uint16_t *)slots, 12);
-    check(verdict.kind == ZUCCHINICOVE_REFUSED && verdict.deadline == 0, what);
-    check(same(verdict.refused, number, ZUCCHINICOVE_LAYER_SHEET, 0, record, byte), what);
-    check(run.kind == ZUCCHINICOVE_REFUSED && run.job == 0 && run.at == 0, what);
-    check(same(run.refused, number, ZUCCHINICOVE_LAYER_SHEET, 0, record, byte), what);
-    check(marked(slots, -GUARD, 24 + GUARD), what);
+    check(verdict.kind == ZUCCHINICOVE_REFUSED && verdict.deadline == 0, what, "the answer of the verdict");
+    check(same(verdict.refused, number, ZUCCHINICOVE_LAYER_SHEET, 0, record, byte), what, "the refusal of the verdict");
+    check(run.kind == ZUCCHINICOVE_REFUSED && run.job == 0 && run.at == 0, what, "the answer of the run");
+    check(same(run.refused, number, ZUCCHINICOVE_LAYER_SHEET, 0, record, byte), what, "the refusal of the run");
+    check(marked(slots, 0, 24), what, "the slots that a refused run leaves");
+    check(guards_stand(slots, 24), what, "the guards of the run");
     free(slots - GUARD);
     free(lent);
 }
@@ -118,13 +122,14 @@ static void try_run(uint32_t phase, const zucchinicove_job *jobs, size_t length,
     zucchinicove_run_answer answer =
         zucchinicove_run(sheet, sizeof good, phase, lent, length, room > 0 ? (uint16_t *)slots : NULL, room);
     if (number == 0) {
-        check(answer.kind == ZUCCHINICOVE_MET && same(answer.refused, 0, 0, 0, 0, 0), what);
+        check(answer.kind == ZUCCHINICOVE_MET, what, "the answer of the run");
+        check(same(answer.refused, 0, 0, 0, 0, 0), what, "the refusal of the run");
     } else {
-        check(answer.kind == ZUCCHINICOVE_REFUSED, what);
-        check(same(answer.refused, number, ZUCCHINICOVE_LAYER_RUN, place, 0, 0), what);
-        check(marked(slots, 0, (ptrdiff_t)(2 * room)), what);
+        check(answer.kind == ZUCCHINICOVE_REFUSED, what, "the answer of the run");
+        check(same(answer.refused, number, ZUCCHINICOVE_LAYER_RUN, place, 0, 0), what, "the refusal of the run");
+        check(marked(slots, 0, (ptrdiff_t)(2 * room)), what, "the slots that a refused run leaves");
     }
-    check(guards_stand(slots, 2 * room), what);
+    check(guards_stand(slots, 2 * room), what, "the guards of the run");
     free(slots - GUARD);
     free(lent);
     free(sheet);
