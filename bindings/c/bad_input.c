@@ -19,6 +19,8 @@ _Static_assert(sizeof(zucchinicove_refused) == 16 && offsetof(zucchinicove_refus
 
 static const uint8_t good[] = {WHOLE, LINE(7, 5, 3), LINE(11, 7, 2), LINE(13, 10, 3), 'E', 'N', 0, 4};
 
+#define DEADLINE_OF_LINE_0 5
+
 /* The report on it, from the rules: 32 bytes. */
 static const char good_report[] = "lines 3\nrest 62\nwatched 18\nfits\n";
 
@@ -112,6 +114,22 @@ static void try_sheet(const uint8_t *sheet, size_t length, unsigned number, unsi
     free(lent);
 }
 
+/* Whether slots are the entries of a run of jobs of line 0, each released after the one in front of it has run: each runs from
+ * its release on, the slots between are idle, and the entries from the largest deadline on are those of slots not given. */
+static int entries_told(const uint16_t *slots, size_t room, const zucchinicove_job *jobs, size_t length)
+{
+    size_t end = length > 0 ? jobs[length - 1].release + DEADLINE_OF_LINE_0 : 0;
+    size_t place = 0;
+    for (size_t s = 0; s < room; s++) {
+        while (place < length && s >= (size_t)jobs[place].release + jobs[place].cost)
+            place++;
+        size_t within = place < length && s >= jobs[place].release ? 1 + place : ZUCCHINICOVE_SLOT_IDLE;
+        if (slots[s] != (s < end ? within : ZUCCHINICOVE_SLOT_NOT_GIVEN))
+            return 0;
+    }
+    return 1;
+}
+
 /* A run is refused and leaves the slots, or it is met where the number is 0. */
 static void try_run(uint32_t phase, const zucchinicove_job *jobs, size_t length, size_t room, unsigned number, unsigned place,
                     const char *what)
@@ -124,11 +142,13 @@ static void try_run(uint32_t phase, const zucchinicove_job *jobs, size_t length,
     if (number == 0) {
         check(answer.kind == ZUCCHINICOVE_MET, what, "the answer of the run");
         check(same(answer.refused, 0, 0, 0, 0, 0), what, "the refusal of the run");
+        check(entries_told((uint16_t *)slots, room, jobs, length), what, "the slots of the run");
     } else {
         check(answer.kind == ZUCCHINICOVE_REFUSED, what, "the answer of the run");
         check(same(answer.refused, number, ZUCCHINICOVE_LAYER_RUN, place, 0, 0), what, "the refusal of the run");
         check(marked(slots, 0, (ptrdiff_t)(2 * room)), what, "the slots that a refused run leaves");
     }
+    check(answer.job == 0 && answer.at == 0, what, "the job and the instant of a run that misses nothing");
     check(guards_stand(slots, 2 * room), what, "the guards of the run");
     free(slots - GUARD);
     free(lent);
