@@ -15,11 +15,24 @@ done
 ZUCCHINICOVE_LIB="$PWD/$lib" cargo build --offline --quiet --manifest-path bindings/rust/Cargo.toml \
     --target-dir "$out/cargo" --examples
 
+# Runs a program, which has to end with a status, and keeps what it prints.
+run() {
+    name=$1 wanted=$2
+    shift 2
+    status=0
+    "$@" >"$out/$name.out" || status=$?
+    if [ "$status" -ne "$wanted" ]; then
+        cat "$out/$name.out" >&2
+        echo "$name: ends with $status, not with $wanted" >&2
+        exit 1
+    fi
+}
+
 # Runs a program and compares what it prints with a stored file.
 compare() {
     name=$1 expected=$2
     shift 2
-    "$@" >"$out/$name.out"
+    run "$name" 0 "$@"
     cmp "$out/$name.out" "bindings/expected/$expected.txt"
     echo "$name: as expected"
 }
@@ -28,13 +41,12 @@ compare c-example example "$out/example"
 compare rust-example example "$out/cargo/debug/examples/sheets"
 compare bad-input bad_input "$out/bad_input"
 
-# The test of bad input fails where one item is written too far.
+# Where one item is written too far, the test of bad input ends with 1, and names the guards of each list that is lent, and no
+# other check. Lines that repeat are compared once.
 cc -std=c11 -Wall -Wextra -Werror -O2 -Iinclude -Wl,--wrap=zucchinicove_report -Wl,--wrap=zucchinicove_run \
     -o "$out/one_too_far" bindings/c/bad_input.c bindings/c/one_too_far.c "$lib/libembed.a"
-if "$out/one_too_far" >"$out/one-too-far.out"; then
-    echo "one-too-far: not noticed" >&2
-    exit 1
-fi
+run one-too-far 1 "$out/one_too_far"
+uniq "$out/one-too-far.out" | cmp - bindings/expected/one_too_far.txt
 echo "one-too-far: noticed"
 
 if [ "${1:-}" = --valgrind ]; then
