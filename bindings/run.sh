@@ -1,6 +1,7 @@
 #!/bin/sh
 # Proves and builds the static library, builds the C and the Rust example and the C test of bad input over it, runs them,
-# and holds what they print to bindings/expected. With --valgrind the C programs run under valgrind, too.
+# and holds what they print to bindings/expected; and runs the tests of the Rust crate. With --valgrind the C programs run
+# under valgrind, too.
 set -eu
 cd "$(dirname "$0")/.."
 out=target/bindings
@@ -40,6 +41,11 @@ compare() {
 compare c-example example "$out/example"
 compare rust-example example "$out/cargo/debug/examples/sheets"
 compare bad-input bad_input "$out/bad_input"
+
+# The tests of the Rust crate.
+run rust-tests 0 env ZUCCHINICOVE_LIB="$PWD/$lib" cargo test --offline --quiet --manifest-path bindings/rust/Cargo.toml \
+    --target-dir "$out/cargo" --no-fail-fast --test refusals --test bounds
+echo "rust-tests: passed"
 
 # Where one item is written too far, the test of bad input ends with 1, and names the guards of each list that is lent, and no
 # other check. Lines that repeat are compared once.
