@@ -47,8 +47,8 @@ run rust-tests 0 env ZUCCHINICOVE_LIB="$PWD/$lib" cargo test --offline --quiet -
     --target-dir "$out/cargo" --no-fail-fast --test refusals --test bounds
 echo "rust-tests: passed"
 
-# Where one item is written too far, the test of bad input ends with 1, and names the guards of each list that is lent, and no
-# other check. Lines that repeat are compared once.
+# Where one item is written too far, the test of bad input ends with 1, and names the guards of each list that may be written,
+# and no other check. Lines that repeat are compared once.
 cc -std=c11 -Wall -Wextra -Werror -O2 -Iinclude -Wl,--wrap=zucchinicove_report -Wl,--wrap=zucchinicove_run \
     -o "$out/one_too_far" bindings/c/bad_input.c bindings/c/one_too_far.c "$lib/libembed.a"
 run one-too-far 1 "$out/one_too_far"
