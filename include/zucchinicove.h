@@ -37,9 +37,9 @@ extern "C" {
 #define ZUCCHINICOVE_LAYER_RUN 3
 #define ZUCCHINICOVE_LAYER_SHEET 4
 
-/* The entries of a slot list: 0 where the slot is given and no job runs, 1 + the place of the job that runs, with places from
- * 0, and 65,535 where the slot is not given. From the instant at which a missed run stops, or from the largest deadline on
- * where all is met, every entry is 65,535, also on the whole processor. */
+/* The entries of a slot list: 0 where the slot is given and no job runs; 1 + the place of the job that runs, from 0; and
+ * 65,535 where the slot is not given. From the instant at which a missed run stops, or from the largest deadline on where
+ * all is met, every entry is 65,535, also on the whole processor. */
 #define ZUCCHINICOVE_SLOT_IDLE 0
 #define ZUCCHINICOVE_SLOT_NOT_GIVEN 65535
 
@@ -54,36 +54,36 @@ extern "C" {
 
 /* Why a call is refused. All are 0 where nothing is refused. */
 typedef struct zucchinicove_refused {
-    uint8_t number;  /* the reason, 1 to 22 */
+    uint8_t number;  /* the number of the reason, 1 to 22 */
     uint8_t layer;   /* the layer that refused */
-    uint32_t place;  /* a line, a cite, a job, or the length needed; 0 where the reason names none */
+    uint32_t place;  /* a line or a job, from 0; a cite, from 1; or the length needed; 0 where the reason names none */
     uint32_t record; /* the record of the sheet, from 1; 0 where it is not a record that is refused */
-    uint32_t byte;   /* the byte at which that record begins, from 0 */
+    uint32_t byte;   /* the byte at which that record begins, from 0; 0 where it is not a record that is refused */
 } zucchinicove_refused;
 
 /* The answer of a report. */
 typedef struct zucchinicove_report_answer {
     uint8_t kind;  /* ZUCCHINICOVE_REFUSED or ZUCCHINICOVE_WRITTEN */
-    size_t length; /* written: the length of the text, in bytes */
+    size_t length; /* written: the length of the text, in bytes; else 0 */
     zucchinicove_refused refused;
 } zucchinicove_report_answer;
 
 /* A verdict. */
 typedef struct zucchinicove_verdict_answer {
     uint8_t kind;      /* ZUCCHINICOVE_REFUSED, ZUCCHINICOVE_FITS or ZUCCHINICOVE_OVERLOADED */
-    uint16_t deadline; /* overloaded: the least deadline at which the lines ask for too much */
+    uint16_t deadline; /* overloaded: the least deadline at which the lines ask for too much; else 0 */
     zucchinicove_refused refused;
 } zucchinicove_verdict_answer;
 
 /* How a run ends. */
 typedef struct zucchinicove_run_answer {
     uint8_t kind; /* ZUCCHINICOVE_REFUSED, ZUCCHINICOVE_MET or ZUCCHINICOVE_MISSED */
-    uint16_t job; /* missed: the place of the job in the list, from 0 */
-    uint16_t at;  /* missed: the instant, which is the job's deadline */
+    uint16_t job; /* missed: the place of the job in the list, from 0; else 0 */
+    uint16_t at;  /* missed: the instant, which is the job's deadline; else 0 */
     zucchinicove_refused refused;
 } zucchinicove_run_answer;
 
-/* A job: its line's number, the instant of its release, and its cost in slots. */
+/* A job: its line's number, from 0; the instant of its release; and its cost in slots. */
 typedef struct zucchinicove_job {
     uint8_t line;
     uint16_t release;
@@ -102,10 +102,10 @@ zucchinicove_verdict_answer zucchinicove_verdict(const uint8_t *sheet, size_t sh
 
 /* Runs a list of jobs of the sheet's lines in a phase of its supply, by earliest deadline first, and fills all of slots: the
  * entries from the stop of a missed run on, or from the largest deadline on where all is met, are 65,535, also on the whole
- * processor. A phase past the last stands for its remainder. All met is answered exactly when the slots meet every deadline;
- * missed means that no schedule meets the list in this phase. Refused where the sheet is, with its record and byte; and
- * then, with layer run and record 0, for the jobs (14, 15, 16) and for a slot list shorter than the largest deadline (13,
- * with the length needed as its place). A refusal leaves slots as they were. */
+ * processor. Jobs come in order of release, and a phase past the last stands for its remainder. All met is answered exactly
+ * when the slots meet every deadline; missed means that no schedule meets the list in this phase. Refused where the sheet
+ * is, with its record and byte; and then, with layer run and record 0, for the jobs (14, 15, 16) and for a slot list shorter
+ * than the largest deadline (13, with the length needed as its place). A refusal leaves slots as they were. */
 zucchinicove_run_answer zucchinicove_run(const uint8_t *sheet, size_t sheet_length, uint32_t phase,
                                          const zucchinicove_job *jobs, size_t jobs_length,
                                          uint16_t *slots, size_t slots_length);

@@ -25,7 +25,7 @@ pub const SLOT_IDLE: u16 = 0;
 /// all is met, is this one, too.
 pub const SLOT_NOT_GIVEN: u16 = 65_535;
 
-/// A job: its line's number, the instant of its release, and its cost in slots.
+/// A job: its line's number, from 0; the instant of its release; and its cost in slots.
 #[repr(C)]
 #[derive(Clone, Copy, PartialEq, Eq, Debug)]
 pub struct Job {

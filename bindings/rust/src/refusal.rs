@@ -27,7 +27,7 @@ impl fmt::Display for Layer {
 pub struct Refusal {
     pub number: u8,
     pub layer: Layer,
-    /// A line, a cite, a job, or the length needed; 0 where the reason names none.
+    /// A line or a job, from 0; a cite, from 1; or the length needed; 0 where the reason names none.
     pub place: u32,
     /// The record of the sheet, from 1, and the byte at which it begins; 0 where it is not a record that is refused.
     pub record: u32,
