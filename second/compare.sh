@@ -4,6 +4,6 @@
 set -eu
 cd "$(dirname "$0")/.."
 (cd crates/embed && rt lib)
-ZUCCHINICOVE_LIB="$PWD/crates/embed/out/libembed.a" cargo build --offline --quiet --release \
+ZUCCHINICOVE_LIB="$PWD/crates/embed/out" cargo build --offline --quiet --release \
     --manifest-path second/Cargo.toml --target-dir target/second
 exec target/second/release/compare "${1:-20261118}" "${2:-1000000}" target/second/differ
