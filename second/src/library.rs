@@ -189,7 +189,8 @@ mod linked {
         fn check_sheet(&mut self, sheet: &[u8], reading: &mut Result<Roster, SheetRefusal>) -> Option<String> {
             let mut differences = String::new();
             // A list one too short for the report is refused and left as it was.
-            let length = report_on(reading).len();
+            let text = report_on(reading);
+            let length = text.len();
             let mut out = vec![BEFORE; length - 1];
             let theirs = ask_report(sheet, &mut out);
             let short = Refused { number: 13, layer: 4, place: length as u32, record: 0, byte: 0 };
@@ -198,11 +199,13 @@ mod linked {
                 differences +=
                     &format!("report into {} bytes\nours: {ours:?}\ntheirs: {theirs:?} {out:?}\n", length - 1);
             }
-            // A list of just the length is long enough.
+            // A list of just the length is long enough, and holds the whole text.
             let mut out = vec![BEFORE; length];
             let theirs = ask_report(sheet, &mut out);
-            if theirs != (ReportAnswer { kind: 1, length, refused: NOTHING }) {
-                differences += &format!("report into {length} bytes\ntheirs: {theirs:?}\n");
+            let ours = ReportAnswer { kind: 1, length, refused: NOTHING };
+            if theirs != ours || out != text {
+                differences +=
+                    &format!("report into {length} bytes\nours: {ours:?} {text:?}\ntheirs: {theirs:?} {out:?}\n");
             }
             let ours = match reading {
                 Err(r) => VerdictAnswer { kind: 0, deadline: 0, refused: refused(r.refusal, r.record, r.byte) },
