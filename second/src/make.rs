@@ -35,30 +35,47 @@ pub struct JobCase {
     pub slots: usize,
 }
 
-/// The fields of a supply: any of the four that a sheet can name. Heavy ones have up to 64 x 64 phases.
+/// A word of a timetable of some length: sparse, dense or in one piece, and never without a given slot.
+fn word(r: &mut Random, length: u32) -> u64 {
+    let row = u64::MAX >> (64 - length);
+    let bits = [r.word(), r.word(), r.word()];
+    let word = match r.below(8) {
+        0 => bits[0] & bits[1] & bits[2],
+        1 => bits[0] & bits[1],
+        2 => bits[0],
+        3 | 4 => bits[0] | bits[1],
+        5 | 6 => bits[0] | bits[1] | bits[2],
+        _ => row << r.below(length),
+    };
+    if word & row == 0 {
+        1 << r.below(length)
+    } else {
+        word & row
+    }
+}
+
+/// How many of f slots a share gives: any number, at least half, or all but a few.
+fn part(r: &mut Random, f: u32) -> u32 {
+    match r.below(5) {
+        0 => r.from_to(1, f),
+        1 | 2 => r.from_to(f.div_ceil(2), f),
+        _ => f - r.below(f.min(5)),
+    }
+}
+
+/// The fields of a supply: any of the four that a sheet can name, of any size. Heavy ones have 1,024 phases or more.
 pub fn fields(r: &mut Random, heavy: bool) -> Fields {
     let mut fields = Fields { length: 0, word: 0, s: 0, f: 0 };
-    let kind = r.below(4);
+    let kind = if heavy { 3 } else { r.pick(&[0, 1, 1, 1, 2, 2, 2, 3, 3, 3]) };
+    let least = if heavy { 32 } else { 1 };
     if kind & 1 == 1 {
-        let length = if heavy { r.from_to(32, 64) } else { r.from_to(1, 7) };
-        let row = if length == 64 { u64::MAX } else { (1 << length) - 1 };
-        let mut word = 0;
-        while word == 0 {
-            word = r.word() & row;
-            if !r.one_in(4) {
-                word |= r.word() & row;
-            }
-            if r.one_in(3) {
-                word |= r.word() & row;
-            }
-        }
+        let length = r.from_to(least, 64);
         fields.length = length as u8;
-        fields.word = word;
+        fields.word = word(r, length);
     }
     if kind & 2 == 2 {
-        let f = if heavy { r.from_to(20, 64) } else { r.from_to(1, 5) };
-        let s = if r.one_in(5) { r.from_to(1, f) } else { r.from_to(f.div_ceil(2), f) };
-        fields.s = s as u8;
+        let f = r.from_to(least, 64);
+        fields.s = part(r, f) as u8;
         fields.f = f as u8;
     }
     fields
