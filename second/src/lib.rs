@@ -1,6 +1,7 @@
 //! A second roster, written from the documents alone, as plainly as can be: the definitions themselves, slot by slot.
 
 pub mod certificate;
+pub mod counts;
 pub mod library;
 pub mod lines;
 pub mod make;

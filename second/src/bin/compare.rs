@@ -4,9 +4,10 @@
 //! Where the path of a report program is given, and not `-`, only reports are compared, with that program. With the
 //! number of a kind, from 0, only sheets of that kind are made.
 
+use second::counts::Counts;
 use second::library::{open, Library, ReportProgram};
 use second::lines::full_watch_list;
-use second::make::{self, JobCase, JOB_KINDS, SHEET_KINDS};
+use second::make::{self, JobCase};
 use second::random::Random;
 use second::refusal::Refusal;
 use second::roster::Roster;
@@ -15,115 +16,11 @@ use second::sheet::{self, SheetRefusal};
 use second::verdict::{verdict, Verdict};
 use std::path::PathBuf;
 
-/// How many differing cases are written out.
-const WRITTEN: u32 = 50;
-
 /// How many job lists are run on an accepted sheet.
 const LISTS: u64 = 2;
 
 /// What a slot list holds before a run.
 const BEFORE: u16 = 4_660;
-
-/// How many cases of a kind were compared, how many were accepted and how many differ.
-#[derive(Clone, Copy, Default)]
-struct Tally {
-    compared: u64,
-    accepted: u64,
-    differ: u64,
-}
-
-/// Everything that is counted, and the folder for differing cases.
-struct Counts {
-    sheets: [Tally; SHEET_KINDS.len()],
-    lists: [Tally; JOB_KINDS.len()],
-    sheet_reasons: [u64; 23],
-    list_reasons: [u64; 23],
-    with_cuts: u64,
-    overloaded: u64,
-    missed: u64,
-    own_laws: u64,
-    own_broken: u64,
-    folder: PathBuf,
-    written: u32,
-}
-
-impl Counts {
-    /// Nothing counted yet.
-    fn new(folder: PathBuf) -> Counts {
-        Counts {
-            sheets: [Tally::default(); SHEET_KINDS.len()],
-            lists: [Tally::default(); JOB_KINDS.len()],
-            sheet_reasons: [0; 23],
-            list_reasons: [0; 23],
-            with_cuts: 0,
-            overloaded: 0,
-            missed: 0,
-            own_laws: 0,
-            own_broken: 0,
-            folder,
-            written: 0,
-        }
-    }
-
-    /// Writes a differing case into the folder, while there are few of them.
-    fn keep(&mut self, name: &str, sheet: &[u8], text: &str) {
-        if self.written >= WRITTEN {
-            return;
-        }
-        self.written += 1;
-        std::fs::create_dir_all(&self.folder).expect("the folder is made");
-        std::fs::write(self.folder.join(format!("{name}.sheet")), sheet).expect("the sheet is written");
-        std::fs::write(self.folder.join(format!("{name}.txt")), text).expect("the case is written");
-    }
-
-    /// Counts a law of this roster's own, and keeps the case where it is broken.
-    fn law(&mut self, holds: bool, name: &str, sheet: &[u8], text: &str) {
-        self.own_laws += 1;
-        if !holds {
-            self.own_broken += 1;
-            self.keep(&format!("own-{name}"), sheet, text);
-        }
-    }
-
-    /// Prints everything.
-    fn print(&self) {
-        let mut all = Tally::default();
-        for (tally, name) in self.sheets.iter().zip(SHEET_KINDS) {
-            all.add(tally);
-            println!("sheets, {name}: {}", tally.text());
-        }
-        println!("sheets: {}; {} with cuts, {} overloaded", all.text(), self.with_cuts, self.overloaded);
-        println!("sheets refused by number: {}", numbers(&self.sheet_reasons));
-        let mut all = Tally::default();
-        for (tally, name) in self.lists.iter().zip(JOB_KINDS) {
-            all.add(tally);
-            println!("job lists, {name}: {}", tally.text());
-        }
-        println!("job lists: {}; {} missed", all.text(), self.missed);
-        println!("job lists refused by number: {}", numbers(&self.list_reasons));
-        println!("own laws: {} looked at, {} broken", self.own_laws, self.own_broken);
-    }
-}
-
-impl Tally {
-    /// Adds another tally.
-    fn add(&mut self, other: &Tally) {
-        self.compared += other.compared;
-        self.accepted += other.accepted;
-        self.differ += other.differ;
-    }
-
-    /// The tally in words.
-    fn text(&self) -> String {
-        format!("{} compared, {} accepted, {} differ", self.compared, self.accepted, self.differ)
-    }
-}
-
-/// The numbers that came, each with how often.
-fn numbers(reasons: &[u64]) -> String {
-    let came = reasons.iter().enumerate().filter(|(_, times)| **times > 0);
-    came.map(|(number, times)| format!("{number}: {times}")).collect::<Vec<_>>().join(", ")
-}
 
 /// Compares the report and the verdict on a sheet.
 fn compare_sheet(
