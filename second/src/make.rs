@@ -4,7 +4,7 @@ use crate::certificate::{Certificate, Cite};
 use crate::lines::{line, Line};
 use crate::random::Random;
 use crate::roster::Roster;
-use crate::run::Job;
+use crate::run::{deadlines, Job};
 use crate::sheet::{cut_record, end_record, line_record, supply_of, supply_record, Fields, LONGEST};
 
 /// The kinds of sheets.
@@ -24,12 +24,37 @@ pub const SHEET_KINDS: [&str; 13] = [
     "at the bounds",
 ];
 
-/// The kinds of job lists.
+/// The kinds of job lists, by the numbers below.
 pub const JOB_KINDS: [&str; 6] = ["legal", "illegal", "witness", "many jobs", "late", "wild"];
 
-/// A job list with its phase and the length of the slot list.
+/// A list whose jobs a run takes, though the slot list may be too short.
+pub const LEGAL: usize = 0;
+
+/// A list that a run refuses for its jobs: 14, 15 or 16.
+pub const ILLEGAL: usize = 1;
+
+/// The witness list of an overloaded roster, in the witness phase.
+pub const WITNESS: usize = 2;
+
+/// A list of about as many jobs as a run takes, or more.
+pub const MANY: usize = 3;
+
+/// A list whose last job falls due about as late as a run takes, or later.
+pub const LATE: usize = 4;
+
+/// A list of any few jobs.
+pub const WILD: usize = 5;
+
+/// The last instant at which a job may fall due.
+const LAST_DUE: u32 = 32_000;
+
+/// The most jobs of a run.
+const MOST_JOBS: usize = 2048;
+
+/// A job list with its kind, its phase and the length of the slot list.
 #[derive(Clone, Debug)]
 pub struct JobCase {
+    pub kind: usize,
     pub phase: u32,
     pub jobs: Vec<Job>,
     pub slots: usize,
@@ -492,12 +517,84 @@ fn legal(r: &mut Random, lines: &[Line], most: usize) -> Vec<Job> {
         let mut release = if dense { 0 } else { r.below(line.period) };
         for _ in 0..r.below(each as u32 + 1) {
             let cost = if dense { line.cost } else { r.from_to(1, line.cost) };
-            jobs.push((release, r.below(100), Job { line: number as u32, release, cost }));
+            if release + line.deadline <= LAST_DUE {
+                jobs.push((release, r.below(100), Job { line: number as u32, release, cost }));
+            }
             release += line.period + if dense { 0 } else { r.below(line.period) };
         }
     }
     jobs.sort_by_key(|job| (job.0, job.1));
     jobs.into_iter().map(|job| job.2).collect()
+}
+
+/// Changes one job of a list, or its place, or brings it twice; mostly the list is illegal then.
+fn change(r: &mut Random, jobs: &mut Vec<Job>) {
+    let i = r.below(jobs.len() as u32) as usize;
+    match r.below(9) {
+        0 => jobs[i].release += 1,
+        1 => jobs[i].release = jobs[i].release.saturating_sub(1),
+        2 => jobs[i].cost += 1,
+        3 => jobs[i].cost = 0,
+        4 => jobs[i].line = r.below(9),
+        5 => jobs[i].line = r.pick(&[8, 9, 255]),
+        6 => jobs[i].release = r.below(65_536),
+        7 => jobs.swap(0, i),
+        _ => {
+            let again = jobs[i];
+            jobs.insert(i, again);
+        }
+    }
+    jobs[i].release = jobs[i].release.min(65_535);
+}
+
+/// An illegal list: a legal one that is changed until it is illegal. Where there is no job, it has one of an absent line.
+fn illegal(r: &mut Random, lines: &[Line], mut jobs: Vec<Job>) -> Vec<Job> {
+    if jobs.is_empty() {
+        let number = lines.len() as u32 + r.below(2);
+        jobs.push(Job { line: number, release: r.below(40), cost: r.below(4) });
+    }
+    if r.one_in(3) {
+        change(r, &mut jobs);
+    }
+    while deadlines(lines, &jobs).is_ok() {
+        change(r, &mut jobs);
+    }
+    jobs
+}
+
+/// About as many jobs as a run takes, of cost 1, as early as the lines may bring them; none where they bring fewer.
+fn many(r: &mut Random, lines: &[Line]) -> Option<Vec<Job>> {
+    let number = r.pick(&[MOST_JOBS - 1, MOST_JOBS, MOST_JOBS, MOST_JOBS + 1, 3000]);
+    if lines.is_empty() {
+        return Some(vec![Job { line: 0, release: 0, cost: 1 }; number]);
+    }
+    let at = |release: u32| {
+        let released = lines.iter().enumerate().filter(move |(_, line)| release % line.period == 0);
+        released.map(move |(number, _)| Job { line: number as u32, release, cost: 1 })
+    };
+    let jobs: Vec<Job> = (0..LAST_DUE).flat_map(at).take(number).collect();
+    (jobs.len() == number).then_some(jobs)
+}
+
+/// A legal list moved so that its last deadline is about the last that may be.
+fn late(r: &mut Random, lines: &[Line], mut jobs: Vec<Job>) -> Vec<Job> {
+    let last = last_deadline(lines, &jobs);
+    let until = r.pick(&[LAST_DUE, LAST_DUE, LAST_DUE + 1, LAST_DUE + 2, 65_535]);
+    for job in jobs.iter_mut() {
+        job.release = (job.release + until.max(last) - last).min(65_535);
+    }
+    jobs
+}
+
+/// A few jobs of any of three lines and any small costs, by release.
+fn wild(r: &mut Random) -> Vec<Job> {
+    let mut release = 0;
+    let mut jobs = Vec::new();
+    for _ in 0..r.below(6) {
+        release += r.below(20);
+        jobs.push(Job { line: r.below(3), release, cost: r.below(4) });
+    }
+    jobs
 }
 
 /// The largest deadline of the jobs whose lines are present.
@@ -506,104 +603,58 @@ fn last_deadline(lines: &[Line], jobs: &[Job]) -> u32 {
     jobs.iter().map(due).max().unwrap_or(0)
 }
 
-/// The job list of a kind on the lines of a roster.
-pub fn jobs(r: &mut Random, kind: usize, roster: &mut Roster) -> JobCase {
-    let lines = roster.lines.clone();
-    let phases = roster.supply.phases();
-    let mut phase = match r.below(8) {
+/// Any phase: mostly one of the supply, and now and then one past its last.
+fn any_phase(r: &mut Random, phases: u32) -> u32 {
+    match r.below(8) {
         0 => phases,
         1 => r.below(u32::MAX),
         2 => u32::MAX,
         _ => r.below(phases),
-    };
+    }
+}
+
+/// A list of the kind, with its phase, on the lines of a roster; none where these lines have none of the kind.
+fn list(r: &mut Random, kind: usize, roster: &mut Roster) -> Option<(u32, Vec<Job>)> {
+    let phase = any_phase(r, roster.supply.phases());
     let most = r.pick(&[0, 4, 8, 16, 30]);
-    let mut jobs = legal(r, &lines, most);
+    let lines = roster.lines.clone();
+    let jobs = legal(r, &lines, most);
     match kind {
-        0 => {}
-        1 => {
-            for _ in 0..r.pick(&[1, 1, 2]) {
-                if jobs.is_empty() {
-                    break;
-                }
-                let i = r.below(jobs.len() as u32) as usize;
-                match r.below(9) {
-                    0 => jobs[i].release += 1,
-                    1 => jobs[i].release = jobs[i].release.saturating_sub(1),
-                    2 => jobs[i].cost += 1,
-                    3 => jobs[i].cost = 0,
-                    4 => jobs[i].line = r.below(9),
-                    5 => jobs[i].line = r.pick(&[8, 9, 255]),
-                    6 => jobs[i].release = r.below(65_536),
-                    7 => jobs.swap(0, i),
-                    _ => {
-                        let again = jobs[i];
-                        jobs.insert(i, again);
-                    }
-                }
-            }
-        }
-        2 => {
-            if let Ok((worst, witness)) = roster.witness(usize::MAX) {
-                phase = worst;
-                jobs = witness;
-            }
-        }
-        3 => {
-            let number = r.pick(&[2047, 2048, 2049, 3000]);
-            if !lines.is_empty() {
-                let mut all = Vec::new();
-                for release in 0..32_000 {
-                    for (number, line) in lines.iter().enumerate() {
-                        if release % line.period == 0 {
-                            all.push(Job { line: number as u32, release, cost: 1 });
-                        }
-                    }
-                }
-                all.truncate(number);
-                jobs = all;
-            } else if r.one_in(2) {
-                jobs = vec![Job { line: 0, release: 0, cost: 1 }; number];
-            }
-        }
-        4 => {
-            let last = last_deadline(&lines, &jobs);
-            let until = r.pick(&[32_000, 32_000, 32_001, 32_002, 65_535]);
-            for job in jobs.iter_mut() {
-                job.release += until.max(last) - last;
-            }
-        }
-        _ => {
-            let number = r.below(6);
-            let mut release = 0;
-            jobs = Vec::new();
-            for _ in 0..number {
-                release += r.below(20);
-                jobs.push(Job { line: r.below(3), release, cost: r.below(4) });
-            }
-        }
+        LEGAL => Some((phase, jobs)),
+        ILLEGAL => Some((phase, illegal(r, &lines, jobs))),
+        WITNESS => roster.witness(usize::MAX).ok(),
+        MANY => many(r, &lines).map(|jobs| (phase, jobs)),
+        LATE if jobs.is_empty() => None,
+        LATE => Some((phase, late(r, &lines, jobs))),
+        _ => Some((phase, wild(r))),
     }
-    for job in jobs.iter_mut() {
-        job.release = job.release.min(65_535);
-    }
-    let last = last_deadline(&lines, &jobs) as usize;
+}
+
+/// A job list of the kind on the lines of a roster, or a legal one where these lines have none of the kind.
+pub fn jobs(r: &mut Random, kind: usize, roster: &mut Roster) -> JobCase {
+    let (kind, (phase, jobs)) = match list(r, kind, roster) {
+        Some(made) => (kind, made),
+        None => (LEGAL, list(r, LEGAL, roster).expect("every roster has a legal list")),
+    };
+    let last = last_deadline(&roster.lines, &jobs) as usize;
     let slots = match r.below(8) {
         0 => last.saturating_sub(1),
         1 => 0,
         2 => last + r.below(40) as usize,
         _ => last,
     };
-    JobCase { phase, jobs, slots }
+    JobCase { kind, phase, jobs, slots }
 }
 
 /// The kind of a job list by its number.
 pub fn job_kind(number: u64) -> usize {
     match number % 2000 {
-        0 => 3,
-        1..=19 => 4,
-        n if n % 10 < 4 => 0,
-        n if n % 10 < 7 => 1,
-        n if n % 10 < 9 => 2,
-        _ => 5,
+        0 => MANY,
+        1..=19 => LATE,
+        n if n % 10 < 4 => LEGAL,
+        n if n % 10 < 6 => ILLEGAL,
+        n if n % 10 < 9 => WITNESS,
+        _ => WILD,
     }
 }
 
@@ -629,7 +680,7 @@ mod tests {
             let mut r = Random::new(seed);
             let bytes = sheet(&mut r, 2);
             if let Ok(mut roster) = sheet::read(&bytes) {
-                let case = jobs(&mut r, 0, &mut roster);
+                let case = jobs(&mut r, LEGAL, &mut roster);
                 let mut slots = vec![0; case.slots];
                 let end = roster.run(case.phase, &case.jobs, &mut slots);
                 if roster.verdict() == crate::verdict::Verdict::Fits && end.is_ok() {

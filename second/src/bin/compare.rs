@@ -85,12 +85,12 @@ fn crowded(roster: &Roster, case: &JobCase) -> bool {
 fn compare_list(
     library: &mut dyn Library,
     counts: &mut Counts,
-    kind: usize,
     name: &str,
     bytes: &[u8],
     roster: &mut Roster,
     case: &JobCase,
 ) {
+    let kind = case.kind;
     let mut slots = vec![BEFORE; case.slots];
     let ours: Result<End, Refusal> = roster.run(case.phase, &case.jobs, &mut slots);
     let said = roster.verdict();
@@ -109,7 +109,7 @@ fn compare_list(
             }
         }
     }
-    if let (2, Verdict::OverloadedAt(t), Ok(end)) = (kind, said, ours) {
+    if let (make::WITNESS, Verdict::OverloadedAt(t), Ok(end)) = (kind, said, ours) {
         let lost = matches!(end, End::Missed { at, .. } if at <= t);
         counts.law(lost, name, bytes, &format!("the witness {case:?} ends {end:?}"));
     }
@@ -150,7 +150,7 @@ fn main() {
                 let kind = make::job_kind(random.word());
                 let case = make::jobs(&mut random, kind, &mut roster);
                 let name = format!("{name}-{list}");
-                compare_list(library.as_mut(), &mut counts, kind, &name, &bytes, &mut roster, &case);
+                compare_list(library.as_mut(), &mut counts, &name, &bytes, &mut roster, &case);
             }
         }
     }
