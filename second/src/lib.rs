@@ -4,6 +4,7 @@ pub mod certificate;
 pub mod counts;
 pub mod library;
 pub mod lines;
+pub mod long;
 pub mod make;
 pub mod random;
 pub mod refusal;

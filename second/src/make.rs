@@ -2,13 +2,14 @@
 
 use crate::certificate::{Certificate, Cite};
 use crate::lines::{line, Line};
+use crate::long;
 use crate::random::Random;
 use crate::roster::Roster;
 use crate::run::{deadlines, Job};
 use crate::sheet::{cut_record, end_record, line_record, supply_of, supply_record, Fields, LONGEST};
 
 /// The kinds of sheets.
-pub const SHEET_KINDS: [&str; 13] = [
+pub const SHEET_KINDS: [&str; 14] = [
     "lines, small",
     "lines, large",
     "lines and cuts, small",
@@ -22,6 +23,7 @@ pub const SHEET_KINDS: [&str; 13] = [
     "long",
     "heavy supply",
     "at the bounds",
+    "long, with cuts",
 ];
 
 /// The kinds of job lists, by the numbers below.
@@ -228,7 +230,7 @@ fn cuts(r: &mut Random, roster: &mut Roster, tries: u32, stray: u32) -> Vec<Vec<
 }
 
 /// A sheet of a supply, records and a closing record.
-fn closed(fields: Fields, records: &[Vec<u8>]) -> Vec<u8> {
+pub fn closed(fields: Fields, records: &[Vec<u8>]) -> Vec<u8> {
     let mut sheet = supply_record(fields);
     sheet.extend(records.concat());
     sheet.extend(end_record(1 + records.len()));
@@ -484,11 +486,12 @@ pub fn sheet(r: &mut Random, kind: usize) -> Vec<u8> {
             let large = r.one_in(20);
             good(r, large, 20, true)
         }
-        _ => at_the_bounds(r),
+        12 => at_the_bounds(r),
+        _ => long::sheet(r),
     }
 }
 
-/// The kind of a sheet by its number: mostly small ones, few long and heavy ones.
+/// The kind of a sheet by its number: mostly small ones, few long and heavy ones, and one in 500 long with cuts.
 pub fn sheet_kind(number: u64) -> usize {
     let n = number % 1000;
     match n {
@@ -501,10 +504,11 @@ pub fn sheet_kind(number: u64) -> usize {
         680..=729 => 6,
         730..=779 => 7,
         780..=829 => 8,
-        830..=959 => 9,
-        960..=994 => 12,
-        995..=998 => 10,
-        _ => 11,
+        830..=958 => 9,
+        959..=992 => 12,
+        993..=996 => 10,
+        997 => 11,
+        _ => 13,
     }
 }
 
