@@ -653,7 +653,7 @@ pub fn jobs(r: &mut Random, kind: usize, roster: &mut Roster) -> JobCase {
 /// The kind of a job list by its number.
 pub fn job_kind(number: u64) -> usize {
     match number % 2000 {
-        0 => MANY,
+        n if n % 250 == 0 => MANY,
         1..=19 => LATE,
         n if n % 10 < 4 => LEGAL,
         n if n % 10 < 6 => ILLEGAL,
