@@ -26,6 +26,9 @@ pub const SHEET_KINDS: [&str; 14] = [
     "long, with cuts",
 ];
 
+/// The kinds of which hardly a sheet is accepted, or none: cut short, bytes added, random bytes, long.
+pub const SELDOM_ACCEPTED: [usize; 4] = [6, 7, 8, 10];
+
 /// The kinds of job lists, by the numbers below.
 pub const JOB_KINDS: [&str; 6] = ["legal", "illegal", "witness", "many jobs", "late", "wild"];
 

@@ -2,7 +2,8 @@
 //!
 //! `compare seed number [folder] [program] [kind]`: so many sheets from the seed; differing cases go into the folder.
 //! Where the path of a report program is given, and not `-`, only reports are compared, with that program. With the
-//! number of a kind, from 0, only sheets of that kind are made.
+//! number of a kind, from 0, only sheets of that kind are made. It ends with an error where anything differs, where no
+//! sheet was compared, and where in 10,000 sheets of all kinds or more something never occurred that should.
 
 use second::counts::Counts;
 use second::library::{open, Library, ReportProgram};
@@ -15,6 +16,9 @@ use second::run::{deadlines, End};
 use second::sheet::{self, SheetRefusal};
 use second::verdict::{verdict, Verdict};
 use std::path::PathBuf;
+
+/// From so many sheets of all kinds on, each kind that should occur has to.
+const MANY: u64 = 10_000;
 
 /// How many job lists are run on an accepted sheet.
 const LISTS: u64 = 2;
@@ -40,7 +44,7 @@ fn compare_sheet(
             let full = full_watch_list(&roster.lines);
             counts.with_cuts += u64::from(roster.watched.len() < full.len());
             let said = roster.verdict();
-            counts.overloaded += u64::from(said != Verdict::Fits);
+            counts.accepted(&roster.supply, said, bytes.len());
             let lines = roster.lines.clone();
             let exact = verdict(&lines, &full, &mut |n| roster.least(n)) == said;
             counts.law(exact, name, bytes, "the verdict changes with the cuts");
@@ -98,7 +102,7 @@ fn compare_list(
         Err(refused) => counts.list_reasons[refused.number as usize] += 1,
         Ok(end) => {
             counts.lists[kind].accepted += 1;
-            counts.missed += u64::from(end != End::Met);
+            counts.ended(&roster.supply, end);
             if said == Verdict::Fits {
                 let text = format!("lines fit, and {case:?} ends {end:?}");
                 counts.law(end == End::Met, name, bytes, &text);
@@ -125,6 +129,24 @@ fn compare_list(
             counts.keep(&format!("list-{name}"), bytes, &text);
         }
     }
+}
+
+/// Why the whole is no success: no sheets, a difference, a broken law, or kinds that should occur and did not.
+fn faults(counts: &Counts, number: u64, all_kinds: bool, runs: bool) -> Vec<String> {
+    let mut faults = Vec::new();
+    if number == 0 {
+        faults.push("no sheets were compared".to_string());
+    }
+    if counts.sheets.iter().chain(&counts.lists).any(|tally| tally.differ > 0) {
+        faults.push(format!("some cases differ: see {}", counts.folder.display()));
+    }
+    if counts.own_broken > 0 {
+        faults.push(format!("laws of this roster's own are broken: see {}", counts.folder.display()));
+    }
+    if all_kinds && number >= MANY {
+        faults.extend(counts.absent(runs).iter().map(|name| format!("none occurred: {name}")));
+    }
+    faults
 }
 
 fn main() {
@@ -155,8 +177,11 @@ fn main() {
         }
     }
     counts.print();
-    let differ = counts.sheets.iter().chain(&counts.lists).any(|tally| tally.differ > 0);
-    if differ || counts.own_broken > 0 {
+    let faults = faults(&counts, number, only.is_none(), library.runs());
+    for fault in &faults {
+        eprintln!("compare: {fault}");
+    }
+    if !faults.is_empty() {
         std::process::exit(1);
     }
 }
