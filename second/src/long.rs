@@ -1,4 +1,4 @@
-//! Sheets of about the longest length that are accepted, with hundreds of cuts; and the like with one record wrong.
+//! Sheets that are accepted with dozens or hundreds of cuts, up to the longest length; and the like with one record wrong.
 
 use crate::certificate::{Certificate, Cite};
 use crate::lines::{line, Line};
@@ -14,8 +14,7 @@ const LONGEST_CUT: usize = 39;
 
 /// Six to eight lines, in turn of a period and of the next one, so that their watch list is long. The costs are about as
 /// many slots as the supply is sure to hold in a period, or fewer.
-fn rows(r: &mut Random, fields: Fields) -> Vec<Line> {
-    let period = r.from_to(100, 128);
+fn rows(r: &mut Random, fields: Fields, period: u32) -> Vec<Line> {
     let before_end = r.pick(&[0, 0, 1, 2]);
     let number = r.from_to(6, 8);
     let held = supply_of(fields).expect("a lawful supply").least(period as usize);
@@ -108,17 +107,15 @@ fn damage(r: &mut Random, records: &mut [Vec<u8>]) {
     records[place][at] = records[place][at].wrapping_add(by);
 }
 
-/// A long sheet: mostly an accepted one, and else one with a record damaged, one too many, or some bytes too many.
-pub fn sheet(r: &mut Random) -> Vec<u8> {
+/// A sheet of lines of about the period and of cuts, of up to so many bytes: mostly an accepted one, and else one with a
+/// record damaged, or with the last one twice.
+fn with_cuts(r: &mut Random, period: u32, length: usize) -> Vec<u8> {
     let fields = fields(r, false);
-    let rows = rows(r, fields);
-    let fault = r.below(10);
-    let shorter = r.below(6_000) as usize;
-    let length = if fault == 0 { LONGEST + 40 } else { LONGEST - r.pick(&[0, 0, 0, 1, shorter]) };
+    let rows = rows(r, fields, period);
     let mut records = records(r, &rows, length);
-    match fault {
-        1 => damage(r, &mut records),
-        2 => {
+    match r.below(10) {
+        0 => damage(r, &mut records),
+        1 => {
             let last = records[records.len() - 1].clone();
             records.push(last);
         }
@@ -127,22 +124,44 @@ pub fn sheet(r: &mut Random) -> Vec<u8> {
     closed(fields, &records)
 }
 
+/// A sheet of about the longest length, or now and then a little longer.
+pub fn long(r: &mut Random) -> Vec<u8> {
+    let period = r.from_to(100, 128);
+    let shorter = r.below(6_000) as usize;
+    let length = r.pick(&[LONGEST, LONGEST, LONGEST, LONGEST, LONGEST - 1, LONGEST - shorter, LONGEST + 40]);
+    with_cuts(r, period, length)
+}
+
+/// A sheet of 1,000 to 10,000 bytes, mostly.
+pub fn middle(r: &mut Random) -> Vec<u8> {
+    let period = r.from_to(16, 60);
+    let length = r.from_to(1_000, 10_000);
+    with_cuts(r, period, length as usize)
+}
+
 #[cfg(test)]
 mod tests {
     use super::*;
     use crate::sheet::read;
 
-    /// The lengths of the accepted ones of a hundred long sheets.
-    fn accepted_lengths() -> Vec<usize> {
-        let sheets = (0..100).map(|seed| sheet(&mut Random::new(seed)));
+    /// The lengths of the accepted ones of a hundred sheets.
+    fn accepted_lengths(make: fn(&mut Random) -> Vec<u8>) -> Vec<usize> {
+        let sheets = (0..100).map(|seed| make(&mut Random::new(seed)));
         sheets.filter(|bytes| read(bytes).is_ok()).map(|bytes| bytes.len()).collect()
     }
 
     #[test]
-    fn most_are_accepted_and_some_are_of_the_longest_length() {
-        let lengths = accepted_lengths();
+    fn most_long_ones_are_accepted_and_some_are_of_the_longest_length() {
+        let lengths = accepted_lengths(long);
         assert!(lengths.len() >= 50 && lengths.len() < 100, "{lengths:?}");
-        assert!(lengths.iter().all(|length| *length > 8_000), "{lengths:?}");
+        assert!(lengths.iter().all(|length| *length > 10_000), "{lengths:?}");
         assert!(lengths.contains(&LONGEST), "{lengths:?}");
+    }
+
+    #[test]
+    fn most_middle_ones_are_accepted() {
+        let lengths = accepted_lengths(middle);
+        assert!(lengths.len() >= 50 && lengths.len() < 100, "{lengths:?}");
+        assert!(lengths.iter().filter(|length| (1_000..10_000).contains(*length)).count() > 40, "{lengths:?}");
     }
 }

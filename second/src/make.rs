@@ -9,7 +9,7 @@ use crate::run::{deadlines, Job};
 use crate::sheet::{cut_record, end_record, line_record, supply_of, supply_record, Fields, LONGEST};
 
 /// The kinds of sheets.
-pub const SHEET_KINDS: [&str; 14] = [
+pub const SHEET_KINDS: [&str; 15] = [
     "lines, small",
     "lines, large",
     "lines and cuts, small",
@@ -24,6 +24,7 @@ pub const SHEET_KINDS: [&str; 14] = [
     "heavy supply",
     "at the bounds",
     "long, with cuts",
+    "of middle length, with cuts",
 ];
 
 /// The kinds of which hardly a sheet is accepted, or none: cut short, bytes added, random bytes, long.
@@ -490,7 +491,8 @@ pub fn sheet(r: &mut Random, kind: usize) -> Vec<u8> {
             good(r, large, 20, true)
         }
         12 => at_the_bounds(r),
-        _ => long::sheet(r),
+        13 => long::long(r),
+        _ => long::middle(r),
     }
 }
 
@@ -507,7 +509,8 @@ pub fn sheet_kind(number: u64) -> usize {
         680..=729 => 6,
         730..=779 => 7,
         780..=829 => 8,
-        830..=954 => 9,
+        830..=949 => 9,
+        950..=954 => 14,
         955..=988 => 12,
         989..=992 => 10,
         993..=997 => 11,
