@@ -672,15 +672,48 @@ pub fn job_kind(number: u64) -> usize {
 mod tests {
     use super::*;
     use crate::sheet;
+    use std::collections::BTreeSet;
+
+    /// How many of a hundred sheets of a kind are accepted.
+    fn accepted(kind: usize) -> usize {
+        (0..100).filter(|seed| sheet::read(&sheet(&mut Random::new(*seed), kind)).is_ok()).count()
+    }
 
     #[test]
-    fn every_kind_is_made_and_the_same_from_the_same_seed() {
-        for kind in 0..SHEET_KINDS.len() {
-            for seed in 0..20 {
-                let first = sheet(&mut Random::new(seed), kind);
-                assert_eq!(first, sheet(&mut Random::new(seed), kind));
+    fn every_kind_of_sheet_is_made_and_is_accepted_where_it_should_be() {
+        let made: BTreeSet<usize> = (0..1000).map(sheet_kind).collect();
+        assert_eq!(made, (0..SHEET_KINDS.len()).collect());
+        for kind in made {
+            let accepted = accepted(kind);
+            assert_eq!(accepted > 3, !SELDOM_ACCEPTED.contains(&kind), "{}: {accepted}", SHEET_KINDS[kind]);
+        }
+    }
+
+    /// Whether a case is what its kind says.
+    fn is_as_named(roster: &mut Roster, case: &JobCase) -> bool {
+        let jobs = &case.jobs;
+        match case.kind {
+            LEGAL => deadlines(&roster.lines, jobs).is_ok(),
+            ILLEGAL => deadlines(&roster.lines, jobs).is_err(),
+            WITNESS => roster.witness(usize::MAX) == Ok((case.phase, jobs.clone())),
+            MANY => jobs.len() >= MOST_JOBS - 1,
+            LATE => last_deadline(&roster.lines, jobs) >= LAST_DUE,
+            _ => jobs.len() < 6,
+        }
+    }
+
+    #[test]
+    fn every_kind_of_job_list_is_made_and_is_what_it_is_called() {
+        let mut made = BTreeSet::new();
+        for number in 0..2000 {
+            let mut r = Random::new(number);
+            if let Ok(mut roster) = sheet::read(&sheet(&mut r, 0)) {
+                let case = jobs(&mut r, job_kind(number), &mut roster);
+                assert!(is_as_named(&mut roster, &case), "{}: {case:?}", JOB_KINDS[case.kind]);
+                made.insert(case.kind);
             }
         }
+        assert_eq!(made, (0..JOB_KINDS.len()).collect());
     }
 
     #[test]
