@@ -1,4 +1,4 @@
-//! A second roster, written from the documents alone, as plainly as can be: the definitions themselves, slot by slot.
+//! A second roster, written from the documents alone, plain and slow. README.md says where it takes a law of theirs as given.
 
 pub mod certificate;
 pub mod counts;
