@@ -82,7 +82,7 @@ fn cuts(r: &mut Random, roster: &mut Roster, room: usize) -> Vec<Vec<u8>> {
 }
 
 /// The records behind the first, for a sheet of up to so many bytes: after each line but the first, cuts into a part of
-/// what is left. The cuts hold on the whole processor, and so over every supply.
+/// what is left. Each cut is tried on the whole processor, and being made of pairs it holds over every other supply, too.
 fn records(r: &mut Random, rows: &[Line], length: usize) -> Vec<Vec<u8>> {
     let mut roster = Roster::open(Supply::Whole);
     let mut records = Vec::new();
