@@ -24,6 +24,10 @@ pub const SUPPLY_KINDS: [&str; 4] = ["whole", "timetable", "share of the whole",
 pub const LENGTH_KINDS: [(&str, usize); 4] =
     [("up to 100", 100), ("up to 1,000", 1000), ("up to 10,000", 10_000), ("longer", usize::MAX)];
 
+/// The kinds of numbers of phases, each with its most.
+pub const PHASE_KINDS: [(&str, usize); 4] =
+    [("up to 10", 10), ("up to 100", 100), ("up to 1,000", 1000), ("more", usize::MAX)];
+
 /// The refusals that sheets and job lists give.
 const SHEET_REASONS: [usize; 17] = [1, 2, 3, 4, 5, 6, 8, 9, 10, 11, 16, 17, 18, 19, 20, 21, 22];
 const LIST_REASONS: [usize; 4] = [13, 14, 15, 16];
@@ -48,6 +52,8 @@ pub struct Counts {
     pub ends: [Ends; SUPPLY_KINDS.len()],
     /// Accepted sheets by kind of length.
     pub lengths: [u64; LENGTH_KINDS.len()],
+    /// Accepted sheets by kind of the number of phases.
+    pub phases: [u64; PHASE_KINDS.len()],
     /// Accepted sheets by the length of their timetable, and by the F of their share; 0 stands for none.
     pub timetables: [u64; 65],
     pub shares: [u64; 65],
@@ -68,6 +74,7 @@ impl Counts {
             with_cuts: 0,
             ends: [Ends::default(); SUPPLY_KINDS.len()],
             lengths: [0; LENGTH_KINDS.len()],
+            phases: [0; PHASE_KINDS.len()],
             timetables: [0; 65],
             shares: [0; 65],
             own_laws: 0,
@@ -102,7 +109,8 @@ impl Counts {
         let ends = &mut self.ends[supply_kind(supply)];
         ends.fits += u64::from(verdict == Verdict::Fits);
         ends.overloaded += u64::from(verdict != Verdict::Fits);
-        self.lengths[length_kind(length)] += 1;
+        self.lengths[kind_of(&LENGTH_KINDS, length)] += 1;
+        self.phases[kind_of(&PHASE_KINDS, supply.phases() as usize)] += 1;
         let (timetable, share) = sizes(supply);
         self.timetables[timetable as usize] += 1;
         self.shares[share as usize] += 1;
@@ -124,8 +132,8 @@ impl Counts {
         }
         println!("sheets: {}; {} with cuts", all.text(), self.with_cuts);
         println!("sheets refused by number: {}", numbers(&self.sheet_reasons));
-        let lengths = self.lengths.iter().zip(LENGTH_KINDS).map(|(times, (name, _))| format!("{name}: {times}"));
-        println!("accepted sheets by length in bytes: {}", lengths.collect::<Vec<_>>().join(", "));
+        println!("accepted sheets by length in bytes: {}", named(&self.lengths, &LENGTH_KINDS));
+        println!("accepted sheets by number of phases: {}", named(&self.phases, &PHASE_KINDS));
         println!("accepted sheets by length of the timetable: {}", numbers(&self.timetables));
         println!("accepted sheets by F of the share: {}", numbers(&self.shares));
     }
@@ -170,15 +178,17 @@ impl Counts {
         compared.chain(accepted).chain(reasons).collect()
     }
 
-    /// How often each length of accepted sheets came, and each size of their supplies.
+    /// How often each length of accepted sheets came, and each number of phases and size of their supplies.
     fn of_sizes(&self) -> Vec<(String, u64)> {
         let lengths = self.lengths.iter().zip(LENGTH_KINDS);
         let lengths = lengths.map(|(times, (name, _))| (format!("accepted sheets of bytes {name}"), *times));
+        let phases = self.phases.iter().zip(PHASE_KINDS);
+        let phases = phases.map(|(times, (name, _))| (format!("accepted sheets of phases {name}"), *times));
         let rows = self.timetables.iter().enumerate();
         let rows = rows.map(|(length, times)| (format!("accepted sheets with a timetable of length {length}"), *times));
         let shares = self.shares.iter().enumerate();
         let shares = shares.map(|(f, times)| (format!("accepted sheets with a share in {f}"), *times));
-        lengths.chain(rows).chain(shares).collect()
+        lengths.chain(phases).chain(rows).chain(shares).collect()
     }
 
     /// How often each verdict came, and each end of a run, over each kind of supply.
@@ -254,9 +264,14 @@ fn sizes(supply: &Supply) -> (u32, u32) {
     }
 }
 
-/// The kind of a length in bytes.
-fn length_kind(length: usize) -> usize {
-    LENGTH_KINDS.iter().position(|(_, longest)| length <= *longest).expect("the last kind has no longest")
+/// The first of some kinds whose bound is not passed.
+fn kind_of(kinds: &[(&str, usize)], value: usize) -> usize {
+    kinds.iter().position(|(_, bound)| value <= *bound).expect("the last kind has no bound")
+}
+
+/// The names of some kinds, each with how often it came.
+fn named(times: &[u64], kinds: &[(&str, usize)]) -> String {
+    times.iter().zip(kinds).map(|(times, (name, _))| format!("{name}: {times}")).collect::<Vec<_>>().join(", ")
 }
 
 #[cfg(test)]
