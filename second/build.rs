@@ -1,5 +1,5 @@
-//! Links the library where ZUCCHINICOVE_LIB names the folder of its archive, or the archive itself; without that there is
-//! none to compare with.
+//! Links the library where ZUCCHINICOVE_LIB names the folder of its archive, or the archive itself; without that there
+//! is none to compare with.
 
 use std::path::PathBuf;
 

@@ -22,11 +22,11 @@ pub const SUPPLY_KINDS: [&str; 4] = ["whole", "timetable", "share of the whole",
 
 /// The kinds of lengths of sheets, each with its longest, in bytes.
 pub const LENGTH_KINDS: [(&str, usize); 4] =
-    [("up to 100", 100), ("up to 1,000", 1000), ("up to 10,000", 10_000), ("longer", usize::MAX)];
+    [("up to 100", 100), ("up to 1,000", 1000), ("up to 10,000", 10_000), ("over 10,000", usize::MAX)];
 
 /// The kinds of numbers of phases, each with its most.
 pub const PHASE_KINDS: [(&str, usize); 4] =
-    [("up to 10", 10), ("up to 100", 100), ("up to 1,000", 1000), ("more", usize::MAX)];
+    [("up to 10", 10), ("up to 100", 100), ("up to 1,000", 1000), ("over 1,000", usize::MAX)];
 
 /// The refusals that sheets and job lists give.
 const SHEET_REASONS: [usize; 17] = [1, 2, 3, 4, 5, 6, 8, 9, 10, 11, 16, 17, 18, 19, 20, 21, 22];
@@ -181,9 +181,9 @@ impl Counts {
     /// How often each length of accepted sheets came, and each number of phases and size of their supplies.
     fn of_sizes(&self) -> Vec<(String, u64)> {
         let lengths = self.lengths.iter().zip(LENGTH_KINDS);
-        let lengths = lengths.map(|(times, (name, _))| (format!("accepted sheets of bytes {name}"), *times));
+        let lengths = lengths.map(|(times, (name, _))| (format!("accepted sheets of {name} bytes"), *times));
         let phases = self.phases.iter().zip(PHASE_KINDS);
-        let phases = phases.map(|(times, (name, _))| (format!("accepted sheets of phases {name}"), *times));
+        let phases = phases.map(|(times, (name, _))| (format!("accepted sheets on {name} phases"), *times));
         let rows = self.timetables.iter().enumerate();
         let rows = rows.map(|(length, times)| (format!("accepted sheets with a timetable of length {length}"), *times));
         let shares = self.shares.iter().enumerate();
@@ -214,8 +214,8 @@ impl Counts {
         compared.chain(accepted).chain(reasons).collect()
     }
 
-    /// Everything that should occur in a comparison of many sheets of all kinds, and did not. Job lists are looked for only
-    /// where runs are compared.
+    /// Everything that should occur in a comparison of many sheets of all kinds, and did not. Job lists are looked for
+    /// only where runs are compared.
     pub fn absent(&self, runs: bool) -> Vec<String> {
         let mut occurred = self.of_sheets();
         occurred.extend(self.of_sizes());

@@ -1,4 +1,5 @@
-//! A second roster, written from the documents alone, plain and slow. README.md says where it takes a law of theirs as given.
+//! A second roster, written from the documents alone, plain and slow. README.md says where it takes a law of theirs as
+//! given.
 
 pub mod certificate;
 pub mod counts;

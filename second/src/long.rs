@@ -1,4 +1,5 @@
-//! Sheets that are accepted with dozens or hundreds of cuts, up to the longest length; and the like with one record wrong.
+//! Sheets that are accepted with dozens or hundreds of cuts, up to the longest length; and the like with one record
+//! wrong.
 
 use crate::certificate::{Certificate, Cite};
 use crate::lines::{line, Line};
@@ -12,8 +13,8 @@ use crate::supply::Supply;
 const SHORTEST_CUT: usize = 15;
 const LONGEST_CUT: usize = 39;
 
-/// Six to eight lines, in turn of a period and of the next one, so that their watch list is long. The costs are about as
-/// many slots as the supply is sure to hold in a period, or fewer.
+/// Six to eight lines, in turn of a period and of the next one, so that their watch list is long. The costs are about
+/// as many slots as the supply is sure to hold in a period, or fewer.
 fn rows(r: &mut Random, fields: Fields, period: u32) -> Vec<Line> {
     let before_end = r.pick(&[0, 0, 1, 2]);
     let number = r.from_to(6, 8);
@@ -31,8 +32,8 @@ fn rows(r: &mut Random, fields: Fields, period: u32) -> Vec<Line> {
     (0..number).map(row).collect()
 }
 
-/// A certificate for the deadline at so many rounds, with a number of cites from 2. In each pair, the two cited deadlines
-/// make up that deadline: over any supply, the slots sure to be held in both are no more than in it.
+/// A certificate for the deadline at so many rounds, with a number of cites from 2. In each pair, the two cited
+/// deadlines make up that deadline: over any supply, the slots sure to be held in both are no more than in it.
 fn by_pairs(r: &mut Random, round: u32, rounds: u32, number: usize) -> Certificate {
     let mut certificate = Certificate { deadline: rounds * round, divisor: 0, cites: Vec::new() };
     for _ in 0..number / 2 {
@@ -82,7 +83,7 @@ fn cuts(r: &mut Random, roster: &mut Roster, room: usize) -> Vec<Vec<u8>> {
 }
 
 /// The records behind the first, for a sheet of up to so many bytes: after each line but the first, cuts into a part of
-/// what is left. Each cut is tried on the whole processor, and being made of pairs it holds over every other supply, too.
+/// what is left. Each cut is tried on the whole processor; being made of pairs, it holds over every other supply, too.
 fn records(r: &mut Random, rows: &[Line], length: usize) -> Vec<Vec<u8>> {
     let mut roster = Roster::open(Supply::Whole);
     let mut records = Vec::new();
@@ -107,8 +108,8 @@ fn damage(r: &mut Random, records: &mut [Vec<u8>]) {
     records[place][at] = records[place][at].wrapping_add(by);
 }
 
-/// A sheet of lines of about the period and of cuts, of up to so many bytes: mostly an accepted one, and else one with a
-/// record damaged, or with the last one twice.
+/// A sheet of lines of about the period and of cuts, of up to so many bytes: mostly an accepted one, and else one with
+/// a record damaged, or with the last one twice.
 fn with_cuts(r: &mut Random, period: u32, length: usize) -> Vec<u8> {
     let fields = fields(r, false);
     let rows = rows(r, fields, period);

@@ -557,7 +557,8 @@ fn change(r: &mut Random, jobs: &mut Vec<Job>) {
     jobs[i].release = jobs[i].release.min(65_535);
 }
 
-/// An illegal list: a legal one that is changed until it is illegal. Where there is no job, it has one of an absent line.
+/// An illegal list: a legal one that is changed until it is illegal. Where that has no job, it gets one of an absent
+/// line.
 fn illegal(r: &mut Random, lines: &[Line], mut jobs: Vec<Job>) -> Vec<Job> {
     if jobs.is_empty() {
         let number = lines.len() as u32 + r.below(2);

@@ -83,8 +83,8 @@ impl Supply {
         self.slots(phase, n).iter().filter(|given| **given).count() as u32
     }
 
-    /// least(0), least(1), .., least(n): the fewest given slots in a window, over all phases, and over all starts where there
-    /// are few phases.
+    /// least(0), least(1), .., least(n): the fewest given slots in a window, over all phases, and over all starts where
+    /// there are few phases.
     pub fn least_up_to(&self, n: usize) -> Vec<u32> {
         let phases = self.phases();
         let starts = if phases <= PHASES_WITH_STARTS { phases } else { 1 };
