@@ -2,6 +2,9 @@
 //! given.
 
 pub mod certificate;
+pub mod chart;
+pub mod command;
+pub mod console;
 pub mod counts;
 pub mod library;
 pub mod lines;
@@ -13,4 +16,6 @@ pub mod roster;
 pub mod run;
 pub mod sheet;
 pub mod supply;
+pub mod typed;
 pub mod verdict;
+pub mod visit;
