@@ -6,3 +6,4 @@ pub mod Passing
 pub mod Ahead
 pub mod Least
 pub mod Listed
+pub mod Leading

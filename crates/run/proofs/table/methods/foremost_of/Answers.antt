@@ -1,7 +1,7 @@
 use Rattle.std.proofs.Common.{rules, ◌≡◌, ℕ, List, length, Some, None, Option, MatchOption, slice_index_or, sym, ap, ◌∙◌, arith}
 use Rattle.run.proofs.Least.{least_from_yields_List}
 use Rattle.run.proofs.Listed.{with_place, listed, listed_there, listed_all}
-use Rattle.run.proofs.table.Table.foremost.Goals as goal
+use Rattle.run.proofs.table.methods.foremost_of.Goals as goal
 use Rattle.run.specs.Ready.{NoneWaits, Leads, Foremost}
 use Rattle.run.specs.declared.ready.Ready.{Ready}
 use Rattle.std.proofs.lemmas.Iterator.{YieldsList-from_slice}
@@ -23,9 +23,9 @@ foremost_listed table (Some m) ((k, l, e), leads) =
 
 pub returns : goal.returns
 returns c =
-    foremost_listed c.args.self.now.jobs c.min_by_key.result
+    foremost_listed c.args.jobs.now c.min_by_key.result
     (least_from_yields_List _ c.min_by_key.result c.min_by_key.ensures.runs
-    (YieldsList-from_filter_map _ with_place (YieldsList-from_enumerate (YieldsList-from_slice c.args.self.now.jobs cc) cc) c.filter_map.ensures.closure (λ x r q k. search (rules, tests)))
+    (YieldsList-from_filter_map _ with_place (YieldsList-from_enumerate (YieldsList-from_slice c.args.jobs.now cc) cc) c.filter_map.ensures.closure (λ x r q k. search (rules, tests)))
     (λ p. p.1.rank)
     (λ x k q called. search (rules, tests))
     (λ p q. Leads p.1 q.1)
