@@ -45,44 +45,76 @@ struct Ready {
     left: u16,
 }
 
-fn foremost(table: &[Ready; 8]) -> Option<usize> {
-    let mut best: Option<usize> = None;
-    for (line, job) in table.iter().enumerate() {
-        if job.left > 0 && best.map_or(true, |b| (job.deadline, job.place) < (table[b].deadline, table[b].place)) {
-            best = Some(line);
+impl Ready {
+    fn is_before(&self, other: &Ready) -> bool {
+        (self.deadline, self.place) < (other.deadline, other.place)
+    }
+}
+
+/// One job for each line, and the line of the foremost beside them.
+struct Table {
+    jobs: [Ready; 8],
+    foremost: Option<usize>,
+}
+
+impl Table {
+    fn find_foremost(&mut self) {
+        self.foremost = None;
+        for line in 0..self.jobs.len() {
+            let job = &self.jobs[line];
+            if job.left > 0 && self.foremost.map_or(true, |first| job.is_before(&self.jobs[first])) {
+                self.foremost = Some(line);
+            }
         }
     }
-    best
+
+    fn put(&mut self, line: usize, job: Ready) {
+        self.jobs[line] = job;
+        match self.foremost {
+            Some(first) if first == line => self.find_foremost(),
+            Some(first) if !job.is_before(&self.jobs[first]) => {}
+            _ => self.foremost = Some(line),
+        }
+    }
+
+    fn serve(&mut self) -> Option<u16> {
+        let line = self.foremost?;
+        let job = &mut self.jobs[line];
+        let place = job.place;
+        job.left -= 1;
+        if job.left == 0 {
+            self.find_foremost();
+        }
+        Some(place)
+    }
+
+    fn overdue(&self, at: u16) -> Option<u16> {
+        let job = &self.jobs[self.foremost?];
+        (job.deadline <= at).then_some(job.place)
+    }
 }
 
 /// With a table of one job for each line.
 pub fn with_table<S: Supply>(supply: &S, phase: u32, rows: &[Row], jobs: &[Job], slots: &mut [u16]) -> End {
     let end = checked(rows, jobs).expect("a lawful list");
     slots.fill(NOT_GIVEN);
-    let mut table = [Ready { place: 0, deadline: 0, left: 0 }; 8];
+    let mut table = Table { jobs: [Ready { place: 0, deadline: 0, left: 0 }; 8], foremost: None };
     let mut next = 0;
     let mut before = 0;
     for s in 0..end {
         while next < jobs.len() && jobs[next].release <= s {
             let job = &jobs[next];
-            table[usize::from(job.line)] = Ready { place: next as u16, deadline: deadline(rows, job), left: job.cost };
+            let ready = Ready { place: next as u16, deadline: deadline(rows, job), left: job.cost };
+            table.put(usize::from(job.line), ready);
             next += 1;
         }
         let after = supply.count(phase, s + 1);
         if after > before {
-            slots[usize::from(s)] = match foremost(&table) {
-                Some(line) => {
-                    table[line].left -= 1;
-                    1 + table[line].place
-                }
-                None => 0,
-            };
+            slots[usize::from(s)] = table.serve().map_or(0, |place| 1 + place);
         }
         before = after;
-        if let Some(line) = foremost(&table) {
-            if table[line].deadline <= s + 1 {
-                return Some((table[line].place, s + 1));
-            }
+        if let Some(place) = table.overdue(s + 1) {
+            return Some((place, s + 1));
         }
     }
     None
