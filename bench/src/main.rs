@@ -1,6 +1,7 @@
 //! How long the library's answers take, beside straight Rust of the same algorithms and beside other ways to the same answers.
 
 mod inputs;
+mod layouts;
 mod library;
 mod qpa;
 mod roster;
@@ -10,8 +11,10 @@ mod supply;
 mod timing;
 
 use inputs::{LINES, LONGEST_HYPERPERIOD, MOST_WATCHED};
+use layouts::{keep_shift, Record, Times};
 use roster::{hyperperiod, Row};
 use std::fmt::Debug;
+use std::fs::File;
 use std::hint::black_box;
 use supply::{Named, Share, Supply, Timetable, Whole};
 use timing::{medians, Side};
@@ -46,6 +49,7 @@ const STRAIGHT: &str = "straight Rust";
 /// The program, which ends with an error where two sides differ.
 struct Bench {
     repetitions: usize,
+    times: Times,
     differ: usize,
 }
 
@@ -65,7 +69,8 @@ impl Bench {
     /// The medians of the sides, after their answers were compared.
     fn time<A: PartialEq + Debug>(&mut self, what: &str, sides: &mut [Side<A>]) -> Vec<f64> {
         self.compare(what, sides);
-        medians(self.repetitions, sides)
+        let repetitions = self.repetitions;
+        self.times.next(|| medians(repetitions, sides))
     }
 }
 
@@ -313,9 +318,22 @@ fn enrolments(bench: &mut Bench) {
     }
 }
 
+/// `bench repetitions [file]` takes the times, and writes them down in the file; `bench middle file ..` takes the middle of those
+/// that are written down.
 fn main() {
-    let repetitions = std::env::args().nth(1).map_or(Ok(15), |text| text.parse()).expect("a number of repetitions");
-    let mut bench = Bench { repetitions, differ: 0 };
+    keep_shift();
+    let words: Vec<String> = std::env::args().skip(1).collect();
+    let (repetitions, times) = match words.split_first() {
+        Some((first, files)) if first == "middle" => {
+            (0, Times::Middle(files.iter().map(|path| Record::read(path)).collect()))
+        }
+        Some((first, files)) => {
+            let file = files.first().map(|path| File::create(path).expect("a file for the times"));
+            (first.parse().expect("a number of repetitions"), Times::Taken(file))
+        }
+        None => (15, Times::Taken(None)),
+    };
+    let mut bench = Bench { repetitions, times, differ: 0 };
     verdicts(&mut bench);
     job_runs(&mut bench);
     sheet_runs(&mut bench);

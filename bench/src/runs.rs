@@ -120,31 +120,33 @@ pub fn with_table<S: Supply>(supply: &S, phase: u32, rows: &[Row], jobs: &[Job],
     None
 }
 
-/// With a heap of the jobs that are ready.
+/// With a heap of the jobs that are ready, and what is left of each beside it.
 pub fn with_heap<S: Supply>(supply: &S, phase: u32, rows: &[Row], jobs: &[Job], slots: &mut [u16]) -> End {
     let end = checked(rows, jobs).expect("a lawful list");
     slots.fill(NOT_GIVEN);
-    let mut ready: BinaryHeap<Reverse<(u16, u16, u16)>> = BinaryHeap::new();
+    let mut ready: BinaryHeap<Reverse<(u16, u16)>> = BinaryHeap::new();
+    let mut left: Vec<u16> = jobs.iter().map(|job| job.cost).collect();
     let mut next = 0;
     let mut before = 0;
     for s in 0..end {
         while next < jobs.len() && jobs[next].release <= s {
-            let job = &jobs[next];
-            ready.push(Reverse((deadline(rows, job), next as u16, job.cost)));
+            ready.push(Reverse((deadline(rows, &jobs[next]), next as u16)));
             next += 1;
         }
         let after = supply.count(phase, s + 1);
         if after > before {
             slots[usize::from(s)] = 0;
-            if let Some(Reverse((due, place, left))) = ready.pop() {
+            if let Some(Reverse((_, place))) = ready.peek() {
                 slots[usize::from(s)] = 1 + place;
-                if left > 1 {
-                    ready.push(Reverse((due, place, left - 1)));
+                let left = &mut left[usize::from(*place)];
+                *left -= 1;
+                if *left == 0 {
+                    ready.pop();
                 }
             }
         }
         before = after;
-        if let Some(Reverse((due, place, _))) = ready.peek() {
+        if let Some(Reverse((due, place))) = ready.peek() {
             if *due <= s + 1 {
                 return Some((*place, s + 1));
             }
