@@ -5,6 +5,20 @@ use Rattle.run.specs.Ready.{less_one, Waits, NoneWaits, Leads, Foremost}
 use Rattle.run.specs.declared.ready.Ready.{Ready}
 use Rattle.std.proofs.lemmas.Bool.{cases_eq}
 
+leads_itself : (job : Ready) → Leads job job
+leads_itself job = record { earlier = omega arith; lower = λ e. omega arith }
+
+leads_on : (one other last : Ready) → Leads one other → Leads other last → Leads one last
+leads_on one other last first then =
+    record {
+      earlier = omega (arith, first.earlier, then.earlier);
+      lower = λ e. omega (arith, first.lower (omega (arith, first.earlier, then.earlier)), then.lower (omega (arith, first.earlier, then.earlier)));
+    }
+
+-- the line of a foremost job is one of the table's eight
+pub foremost_there : (table : List (Option Ready)) (i : ℕ) (job : Ready) → length table ≡ 8 → Foremost table i job → i < 8
+foremost_there table i job room foremost = omega (arith, waits_there table i job foremost.waits)
+
 -- what is so of what is written at a line, and of all that waited, is so of all that waits
 pub written_waits : (table : List (Option Ready)) (i : ℕ) (o : Option Ready) → i < length table → (P : Ready → Type 0) → ((ready : Ready) → o ≡ Some ready → P ready) → ((j : ℕ) (ready : Ready) → Waits table j ready → P ready) → (j : ℕ) (ready : Ready) → Waits (set table i o) j ready → P ready
 written_waits table i o room P own others j ready w =
@@ -21,7 +35,7 @@ module _ (table : List (Option Ready)) (i : ℕ) (job : Ready) (room : i < lengt
   foremost_alone none =
       record {
         waits = set_waits table i job room;
-        leads = put_waits (Leads job) (record { earlier = omega arith; lower = λ e. omega arith }) (λ j other w. absurd (none j other w));
+        leads = put_waits (Leads job) (leads_itself job) (λ j other w. absurd (none j other w));
       }
 
   module _ (k : ℕ) (first : Ready) (foremost : Foremost table k first) where
@@ -30,8 +44,7 @@ module _ (table : List (Option Ready)) (i : ℕ) (job : Ready) (room : i < lengt
     foremost_ahead ahead =
         record {
           waits = set_waits table i job room;
-          leads = put_waits (Leads job) (record { earlier = omega arith; lower = λ e. omega arith })
-              (λ j other w. let its = foremost.leads j other w in record { earlier = omega (arith, ahead.earlier, its.earlier); lower = λ e. omega (arith, ahead.lower (omega (arith, ahead.earlier, its.earlier)), its.lower (omega (arith, ahead.earlier, its.earlier))) });
+          leads = put_waits (Leads job) (leads_itself job) (λ j other w. leads_on job first other ahead (foremost.leads j other w));
         }
 
     -- the foremost leads a job that is put behind it
@@ -49,7 +62,7 @@ module _ (table : List (Option Ready)) (i : ℕ) (job : Ready) (foremost : Forem
       let room = waits_there table i job foremost.waits in
       record {
         waits = set_waits table i (less_one job) room;
-        leads = put_waits table i (less_one job) room (Leads (less_one job)) (record { earlier = omega arith; lower = λ e. omega arith })
+        leads = put_waits table i (less_one job) room (Leads (less_one job)) (leads_itself (less_one job))
             (λ j other w. let its = foremost.leads j other w in record { earlier = its.earlier; lower = its.lower });
       }
 
@@ -65,11 +78,11 @@ pub tells_leads : (table : List (Option Ready)) (r : Option (ℕ × Ready)) → 
 tells_leads table None none x e = absurd (cc)
 tells_leads table (Some first) leads x e = let same : first ≡ x = cc in subst (λ p. Foremost table p.0 p.1) same leads
 
+-- the line of a foremost job, and any where none waits
 line_in : Option (ℕ × Ready) → ℕ
 line_in None = 0
 line_in (Some first) = first.0
 
--- one foremost job, one line
 pub same_line : (one other : ℕ × Ready) → Some one ≡ Some other → one.0 ≡ other.0
 unfolding line_in
 same_line one other e = ap line_in e

@@ -1,6 +1,6 @@
 -- The foremost job waits at its line, so it wants a slot, and its place is in the table.
 use Rattle.run.proofs.Holding.{waits_there, served_is}
-use Rattle.run.proofs.Leading.{Tells, tells_idle, tells_leads, foremost_served, written_waits}
+use Rattle.run.proofs.Leading.{Tells, tells_idle, tells_leads, foremost_served, foremost_there, written_waits}
 use Rattle.run.proofs.table.Table.serve.Goals as goal
 use Rattle.run.proofs.table.Table.serve.Goals.{in-Some, in-None}
 use Rattle.std.proofs.Common.{◌<◌, set, rules, sym, ap, ◌∙◌, arith}
@@ -10,14 +10,10 @@ pub served-left-requires : goal.served-left-requires
 served-left-requires c = let leads = c.args.self.now.leads _ c.in_ok-line.was in c.args.self.now.wanting _ _ leads.waits
 
 pub offset_bounds-self-line : goal.offset_bounds-self-line
-offset_bounds-self-line c =
-    let leads = c.args.self.now.leads _ c.in_ok-line.was in
-    omega (arith, waits_there c.args.self.now.jobs c.in_ok-line.line c.in_ok-line.job leads.waits, c.args.self.now.room)
+offset_bounds-self-line c = let there = foremost_there _ _ _ c.args.self.now.room (c.args.self.now.leads _ c.in_ok-line.was) in omega arith
 
 pub bounds-self-line : goal.bounds-self-line
-bounds-self-line c =
-    let leads = c.args.self.now.leads _ c.in_ok-line.was in
-    omega (arith, waits_there c.args.self.now.jobs c.in_ok-line.line c.in_ok-line.job leads.waits, c.args.self.now.room)
+bounds-self-line c = foremost_there _ _ _ c.args.self.now.room (c.args.self.now.leads _ c.in_ok-line.was)
 
 -- a job that wants another slot stays the foremost, and else the table is looked through
 tells : (c : goal.Joined-left) → Tells (set c.args.self.now.jobs c.in_ok-line.line c.served-left.result) c.match-left.self
