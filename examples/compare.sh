@@ -6,7 +6,7 @@ cd "$(dirname "$0")/.."
 out=target/examples
 mkdir -p "$out"
 
-# One run builds the program; the copies of it then answer at once.
+# A run builds each program, which is then started by itself.
 for program in console report; do
     (cd "crates/$program" && rt run </dev/null >/dev/null)
 done
