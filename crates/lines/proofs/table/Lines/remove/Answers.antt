@@ -21,3 +21,6 @@ invariant_of-rest c =
       brief = omega (arith, ap hyperperiod moved, fewer.briefer, self.brief);
       few = omega (arith, ap (λ rows. length (full_list rows)) moved, fewer.no_longer, self.few);
     }
+
+pub returns : goal.returns
+returns c = search rules
