@@ -4,9 +4,13 @@
     tools/gate_time.py run RECORD         runs `rt ci --anew` at the top, and writes what it sampled to the file RECORD
     tools/gate_time.py table RECORD       the processor seconds of each crate: proof, tests, builds, edits
     tools/gate_time.py edits RECORD       the processor seconds of each edit, dearest first
+    tools/gate_time.py compare OLD NEW    the sums of two records, crate by crate
 
 A run samples its own processes ten times a second. What one of them used after its last sample is lost: at most a
 tenth of a second each. The whole, which the kernel counts, stands beside the sum. Run nothing else meanwhile.
+
+A crate with two edits or more is proved once more before them, and once more behind them over what that left; both are
+`before edits`. An only edit is tried from nothing.
 """
 import collections
 import json
@@ -44,11 +48,18 @@ def words_of(pid):
         return []
 
 
+def folder_of(pid):
+    try:
+        return os.path.basename(os.readlink(f"/proc/{pid}/cwd"))
+    except OSError:
+        return ""
+
+
 def after(words, flag):
     return words[words.index(flag) + 1] if flag in words[:-1] else ""
 
 
-def task_of(words):
+def task_of(words, folder):
     """The crate and the part of the gate that a process of the prover works for, if it is one."""
     if not words or os.path.basename(words[0]) != "rattle" or "--crate-name" not in words:
         return None
@@ -57,6 +68,8 @@ def task_of(words):
         return crate, "edits", int(over)
     if over == "seed":
         return crate, "before edits", None
+    if folder.startswith("rt-edit-"):
+        return crate, "edits", 0
     if after(words, "-o").rpartition("/")[2].startswith(f"{crate}_tests"):
         return crate, "tests", None
     if "--crate-checked" in words:
@@ -76,7 +89,7 @@ def run(record):
             while up in parent and up != gate.pid:
                 key = up, found[up][2]
                 if tasks.get(key) is None:
-                    tasks[key] = task_of(words_of(up))
+                    tasks[key] = task_of(words_of(up), folder_of(up))
                 if tasks[key]:
                     break
                 up = parent[up]
@@ -92,6 +105,8 @@ def run(record):
         "clock": time.monotonic() - began,
         "processor": usage.ru_utime + usage.ru_stime,
         "processors": len(os.sched_getaffinity(0)),
+        "uses": below(),
+        "names": {it: edits_of(it) for it in below()},
         "processes": [it for it in seen.values() if "used" in it],
     }
     with open(record, "w") as out:
@@ -109,8 +124,8 @@ def below():
     found = {}
     with open(f"{TOP}/crates.txt") as lines:
         for line in lines:
-            name, _, uses = line.partition(":")
-            if uses or line.strip().endswith(":"):
+            name, _, uses = line.partition("#")[0].partition(":")
+            if name.strip():
                 found[name.split()[0]] = uses.split()
     return {it: [use for use in uses if use in found] for it, uses in found.items()}
 
@@ -133,9 +148,9 @@ def sums(whole):
     return used, {it: last - first for it, (first, last) in clock.items()}
 
 
-def chain(clock):
+def chain(uses, clock):
     """The crates one above the other whose proofs take longest by the clock, and how long."""
-    uses, best = below(), {}
+    best = {}
 
     def longest(crate):
         if crate not in best:
@@ -149,31 +164,55 @@ def chain(clock):
 def table(record):
     whole = read(record)
     used, clock = sums(whole)
-    crates = sorted(below(), key=lambda it: -sum(used[it, part] for part in PARTS))
+    whole_of = lambda crate: sum(used[crate, part] for part in PARTS)
+    number = {crate: len(names) for crate, names in whole["names"].items()}
     print("| crate | " + " | ".join(PARTS) + " | number of edits | sum |")
     print("|---" * (len(PARTS) + 3) + "|")
-    for crate in crates:
+    for crate in sorted(whole["uses"], key=whole_of, reverse=True):
         parts = [used[crate, part] for part in PARTS]
-        print(f"| `{crate}` | " + " | ".join(f"{it:.0f}" if it else "" for it in parts) + f" | {len(edits_of(crate)) or ''} | {sum(parts):.0f} |")
-    parts = [sum(used[crate, part] for crate in crates) for part in PARTS]
-    print("| all | " + " | ".join(f"{it:.0f}" for it in parts) + f" | {sum(len(edits_of(it)) for it in crates)} | {sum(parts):.0f} |")
+        print(f"| `{crate}` | " + " | ".join(f"{it:.0f}" if it else "" for it in parts) + f" | {number[crate] or ''} | {whole_of(crate):.0f} |")
+    parts = [sum(used[crate, part] for crate in whole["uses"]) for part in PARTS]
+    print("| all | " + " | ".join(f"{it:.0f}" for it in parts) + f" | {sum(number.values())} | {sum(parts):.0f} |")
     print(f"\nBeside these {used['', 'rest']:.0f} seconds of the gate itself, of programs and of tests that ran.")
-    print(f"In all {whole['processor'] / 60:.1f} processor minutes, {whole['clock'] / 60:.1f} by the clock on {whole['processors']} processors.")
-    took, names = chain(clock)
+    tell_whole(whole)
+    took, names = chain(whole["uses"], clock)
     print(f"The longest chain of proofs took {took / 60:.1f} minutes by the clock: {', '.join(names)}.")
 
 
+def tell_whole(whole):
+    print(f"In all {whole['processor'] / 60:.1f} processor minutes, {whole['clock'] / 60:.1f} by the clock on {whole['processors']} processors.")
+
+
 def edits(record):
-    used = collections.Counter()
-    for it in read(record)["processes"]:
+    whole, used = read(record), collections.Counter()
+    for it in whole["processes"]:
         if it["task"] and it["task"][1] == "edits":
             used[it["task"][0], it["task"][2]] += it["used"]
     for (crate, number), seconds in used.most_common():
-        print(f"{seconds:6.1f} {crate}/{edits_of(crate)[number]}")
+        print(f"{seconds:6.1f} {crate}/{whole['names'][crate][number]}")
+
+
+def compare(old, new):
+    both = [read(old), read(new)]
+    used = [sums(it)[0] for it in both]
+    whole_of = lambda side, crate: sum(used[side][crate, part] for part in PARTS)
+    crates = sorted({*both[0]["uses"], *both[1]["uses"]}, key=lambda it: -whole_of(0, it))
+    told = lambda side, crate: [
+        f"{used[side][crate, 'proof']:.0f}",
+        str(len(both[side]["names"][crate]) or ""),
+        f"{whole_of(side, crate):.0f}",
+    ] if crate in both[side]["uses"] else ["", "", ""]
+    print("| crate | proof | edits | sum | proof now | edits now | sum now |")
+    print("|---" * 7 + "|")
+    for crate in crates:
+        print(f"| `{crate}` | " + " | ".join(told(0, crate) + told(1, crate)) + " |")
+    for whole in both:
+        tell_whole(whole)
 
 
 if __name__ == "__main__":
-    calls = {"run": run, "table": table, "edits": edits}
-    if len(sys.argv) != 3 or sys.argv[1] not in calls:
+    calls = {("run", 1): run, ("table", 1): table, ("edits", 1): edits, ("compare", 2): compare}
+    call = calls.get((sys.argv[1] if len(sys.argv) > 1 else "", len(sys.argv) - 2))
+    if not call:
         sys.exit(__doc__)
-    sys.exit(calls[sys.argv[1]](sys.argv[2]))
+    sys.exit(call(*sys.argv[2:]))
