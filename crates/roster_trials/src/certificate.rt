@@ -1,66 +1,98 @@
-// Certificates, and whether one is right by the definitions.
-use crate::counts::count;
-use crate::model::Model;
-use crate::slots::Slots;
-use lines::Row;
+// Random certificates, and what their cites come to.
+use crate::figures::{Figures, at};
 use roster::Cite;
-use std::alloc::{AllocError, Global};
+use short_list::ShortList;
+use trial_tools::{Generator, Random};
 
-// The deadline that is to leave, the divisor, and the cites. (A type of its own beside the one of texts, which is plain: this one
-// counts by the definitions.)
-#[derive(Drop)]
+// The deadline that is to leave, the divisor, the cites, and their bytes: deadline and weight, two bytes each, the high byte first.
+// (A type of its own beside the one of texts, which is plain: this one counts by the definitions.)
+#[derive(Clone, Copy)]
 pub(crate) struct Certificate {
     pub(crate) deadline: u16,
     pub(crate) divisor: u16,
-    pub(crate) cites: Vec<Cite>,
+    pub(crate) cites: ShortList<Cite, 8>,
+    pub(crate) bytes: ShortList<u8, 32>,
 }
 
+// The cite that fills a list.
+const NO_CITE: Cite = Cite {
+    deadline: 0,
+    weight: 0,
+};
+
 // A figure times its weight.
-fn weighed(weight: u16, figure: u64) -> u64 {
-    u64::from(weight).saturating_mul(figure)
+fn weighed(weight: u16, figure: u16) -> u64 {
+    u64::from(weight).saturating_mul(u64::from(figure))
+}
+
+// The last of a rising list that comes by t.
+fn last_by(list: &[u16], t: u16) -> Option<u16> {
+    let mut last = None;
+    for d in list {
+        if *d <= t {
+            last = Some(*d);
+        }
+    }
+    last
+}
+
+// A deadline of a list that comes by t, the last or any, and mostly another than d.
+fn cited(random: &mut Random, list: &[u16], d: u16, t: u16) -> Option<u16> {
+    let most = if random.below(2) == 0 {
+        t
+    } else {
+        random.of(list).min(t)
+    };
+    let last = last_by(list, most);
+    if last == Some(d) && random.below(16) != 0 {
+        return last_by(list, d.saturating_sub(1));
+    }
+    last
 }
 
 impl Certificate {
-    // The cites as bytes: deadline and weight, two bytes each, the high byte first.
-    pub(crate) fn bytes(&self, heap: Global) -> Result<Vec<u8>, AllocError> {
-        let mut bytes = Vec::new(heap);
-        for cite in self.cites.as_slice() {
-            bytes.extend(cite.deadline.to_be_bytes())?;
-            bytes.extend(cite.weight.to_be_bytes())?;
+    // A certificate for a deadline of a list, with cites that together come to about its length.
+    pub(crate) fn random(random: &mut Random, list: &[u16]) -> Certificate {
+        let deadline = random.of(list);
+        let divisor = random.up_to(2);
+        let mut left = deadline.saturating_mul(divisor);
+        let mut certificate = Certificate {
+            deadline,
+            divisor,
+            cites: ShortList::none(NO_CITE),
+            bytes: ShortList::none(0),
+        };
+        for _ in 0..8 {
+            // Where none comes before the deadline itself, 0 is cited, which is never watched.
+            let cited = cited(random, list, deadline, left).unwrap_or(0);
+            let weight = random.up_to(3).saturating_sub(1).max(1);
+            left = left.saturating_sub(cited.saturating_mul(weight));
+            certificate.cite(cited, weight);
+            if last_by(list, left).is_none() {
+                break;
+            }
         }
-        Ok(bytes)
+        certificate
     }
 
-    // Whether the deadline and the cites are watched, and it does not cite itself.
-    fn is_watched(&self, model: &Model) -> bool {
-        model.watches(self.deadline)
-            && self.cites.iter().all(|cite| cite.deadline != self.deadline
-                && model.watches(cite.deadline))
+    // One cite more.
+    fn cite(&mut self, deadline: u16, weight: u16) {
+        let _ = self.cites.push(Cite { deadline, weight });
+        let _ = self.bytes.extend_from_slice(&deadline.to_be_bytes());
+        let _ = self.bytes.extend_from_slice(&weight.to_be_bytes());
+    }
+
+    // A figure of the deadline, times the divisor.
+    pub(crate) fn own(&self, figures: &Figures) -> u64 {
+        weighed(self.divisor, at(figures, self.deadline))
     }
 
     // A figure of each cited deadline times its weight, together.
-    fn cited<F: Fn(u16) -> u64>(&self, figure: F) -> u64
-        requires { F.IsAlwaysCallable figure }
-    {
-        self.cites.iter().fold(0u64, |sum, cite| {
-            sum.saturating_add(weighed(cite.weight, figure(cite.deadline)))
-        })
-    }
-
-    // Whether the cites cover the count of a line.
-    fn covers(&self, row: &Row) -> bool {
-        weighed(self.divisor, count(row, self.deadline)) <= self.cited(|t| count(row, t))
-    }
-
-    // Whether the cites ask for no more slots than are sure by the deadline.
-    fn affords(&self, slots: &Slots) -> bool {
-        self.cited(|t| slots.least(t)) <= weighed(self.divisor, slots.least(self.deadline))
-    }
-
-    // Whether it is right.
-    pub(crate) fn is_right(&self, model: &Model, slots: &Slots) -> bool {
-        model.rows().iter().all(|row| self.covers(row))
-            && self.is_watched(model)
-            && self.affords(slots)
+    pub(crate) fn cited(&self, figures: &Figures) -> u64 {
+        let mut sum = 0u64;
+        for cite in self.cites.as_slice() {
+            sum = sum.saturating_add(weighed(cite.weight, at(figures, cite.deadline)));
+        }
+        sum
     }
 }

@@ -2,21 +2,14 @@
 #![tactic(auto)]
 
 mod certificate;
-mod counts;
+mod figures;
 mod jobs;
 mod model;
-mod random;
-mod slots;
 mod trials;
 
 use trial_tools::print;
 
-// Prints for each group how many answers were compared and how many differ.
-fn compare(rt: &HostRuntime) -> anyhow::Result<()> {
-    print(rt, &trials::compared(rt.alloc())?.tallies())?;
-    Ok(())
-}
-
 fn main(rt: HostRuntime) -> anyhow::Result<()> {
-    compare(&rt)
+    print(&rt, &trials::compared())?;
+    Ok(())
 }

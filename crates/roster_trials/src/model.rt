@@ -1,82 +1,128 @@
 // A roster by the definitions: its lines, and which deadlines are watched.
-use crate::counts::{is_deadline, rests};
-use crate::slots::LAST;
+use crate::certificate::Certificate;
+use crate::figures::{Deadlines, Figures, LAST, at, counts, deadlines, demand};
 use lines::{Lines, Row};
-use std::alloc::{AllocError, Global};
+use roster::{Call, Roster};
+use short_list::ShortList;
+use trial_tools::row;
 
-#[derive(Drop)]
+// The rows of lines, by number.
+type Rows = ShortList<Row, 8>;
+
+// The rows of no line.
+fn no_rows() -> Rows {
+    ShortList::none(row!(0, 0, 0))
+}
+
+// The rows of some lines.
+fn rows_of(lines: &Lines) -> Rows {
+    let mut rows = no_rows();
+    for line in lines.iter() {
+        let _ = rows.push(line.row());
+    }
+    rows
+}
+
+// (Short lists, which need no heap. What leaves one is left out by hand, since the library takes it out by a call of the list.)
+#[derive(Clone, Copy)]
 pub(crate) struct Model {
-    heap: Global,
-    rows: Vec<Row>,
-    watched: Vec<u16>,
+    pub(crate) rows: Rows,
+    pub(crate) watched: Deadlines,
 }
 
 impl Model {
     // Neither a line nor a deadline.
-    pub(crate) fn none(heap: Global) -> Model {
+    pub(crate) fn none() -> Model {
         Model {
-            heap,
-            rows: Vec::new(heap),
-            watched: Vec::new(heap),
+            rows: no_rows(),
+            watched: ShortList::none(0),
         }
-    }
-
-    // The lines.
-    pub(crate) fn rows(&self) -> &[Row] {
-        self.rows.as_slice()
-    }
-
-    // Whether a deadline is watched.
-    pub(crate) fn watches(&self, t: u16) -> bool {
-        self.watched.contains(&t)
-    }
-
-    // Watches a deadline no more.
-    pub(crate) fn leave(&mut self, t: u16) {
-        self.watched.retain(|d| *d != t);
-    }
-
-    // Watches the deadlines up to the first rest point. (One comes by LAST, since random periods divide 120.)
-    fn watch_all(&mut self) -> Result<(), AllocError> {
-        let rows = self.rows.as_slice();
-        let rest = (1..=LAST).find(|t| rests(rows, *t)).unwrap_or(LAST);
-        let watched = (1..=rest)
-            .filter(|t| is_deadline(rows, *t))
-            .collect(self.heap)?;
-        self.watched = watched;
-        Ok(())
     }
 
     // One line more.
-    pub(crate) fn enrol(&mut self, row: Row) -> Result<(), AllocError> {
-        self.rows.push(row)?;
-        self.watch_all()
+    fn enrol(&mut self, row: Row) {
+        let _ = self.rows.push(row);
+        self.watched = deadlines(self.rows.as_slice());
     }
 
     // A line leaves, and the later ones are numbered one lower.
-    pub(crate) fn strike(&mut self, number: u8) -> Result<(), AllocError> {
-        let place = usize::from(number);
-        if place < self.rows.len() {
-            self.rows.remove(place);
+    fn strike(&mut self, number: u8) {
+        let mut left = Model::none();
+        for line in 0..self.rows.len() {
+            if line != usize::from(number) {
+                left.enrol(self.rows.as_slice()[line]);
+            }
         }
-        self.watch_all()
+        *self = left;
     }
 
     // A line gets a new cost.
-    pub(crate) fn recost(&mut self, number: u8, cost: u16) {
-        if let Some(row) = self.rows.get_mut(usize::from(number)) {
-            row.cost = cost;
+    fn recost(&mut self, number: u8, cost: u16) {
+        let line = usize::from(number);
+        if line < self.rows.len() {
+            let row = self.rows.as_slice()[line];
+            self.rows.replace(line, Row { cost, ..row });
         }
     }
 
-    // Whether a list has the watched deadlines, rising, and no other.
-    pub(crate) fn is_list(&self, list: &[u16]) -> bool {
-        self.watched.as_slice() == list
+    // Watches a deadline no more.
+    fn leave(&mut self, t: u16) {
+        let mut left = ShortList::none(0);
+        for d in self.watched.as_slice() {
+            if *d != t {
+                let _ = left.push(*d);
+            }
+        }
+        self.watched = left;
     }
 
-    // Whether a set has these lines, by number, and no other.
-    pub(crate) fn is_lines(&self, lines: &Lines) -> bool {
-        let rows = lines.iter().map(|line| line.row());
-        rows.eq(self.rows.iter().copied())
+    // Makes a call that is not refused.
+    pub(crate) fn make(&mut self, call: Call) {
+        match call {
+            Call::Enrol(row) => self.enrol(row),
+            Call::Strike(line) => self.strike(line),
+            Call::Recost { line, cost } => self.recost(line, cost),
+            Call::Cut { deadline, .. } => self.leave(deadline),
+        }
+    }
+
+    // Whether a roster has these lines, by number, and watches these deadlines, and no other.
+    pub(crate) fn is_held<S>(&self, roster: &Roster<S>) -> bool {
+        rows_of(roster.lines()).as_slice() == self.rows.as_slice()
+            && roster.watched().as_slice() == self.watched.as_slice()
+    }
+
+    // The first instant by which more is due than any so many slots are sure to hold: a deadline.
+    pub(crate) fn overload(&self, least: &Figures) -> Option<u16> {
+        let demand = demand(self.rows.as_slice());
+        for t in 1..=LAST {
+            if at(&demand, t) > at(least, t) {
+                return Some(t);
+            }
+        }
+        None
+    }
+
+    // Whether a deadline and its cites are watched, and it does not cite itself.
+    fn is_watched(&self, certificate: &Certificate) -> bool {
+        for cite in certificate.cites.as_slice() {
+            if cite.deadline == certificate.deadline
+                || !self.watched.as_slice().contains(&cite.deadline)
+            {
+                return false;
+            }
+        }
+        self.watched.as_slice().contains(&certificate.deadline)
+    }
+
+    // Whether a certificate is right: its cites cover the count of each line, and ask for no more slots than are sure.
+    pub(crate) fn accepts(&self, certificate: &Certificate, least: &Figures) -> bool {
+        for row in self.rows.as_slice() {
+            let counts = counts(row);
+            if certificate.own(&counts) > certificate.cited(&counts) {
+                return false;
+            }
+        }
+        self.is_watched(certificate) && certificate.cited(least) <= certificate.own(least)
     }
 }

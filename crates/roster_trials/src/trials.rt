@@ -1,13 +1,10 @@
 // Random rosters: calls on them, verdicts and runs, each beside what the definitions say.
-use crate::counts::overload;
-use crate::jobs;
+use crate::certificate::Certificate;
+use crate::figures::{Deadlines, Figures, at, deadlines, given, least};
+use crate::jobs::{NO_JOB, is_witness, legal};
 use crate::model::Model;
-use crate::random::{certificate, row};
-use crate::slots::Slots;
-use lines::{Row, WatchList};
-use roster::Roster;
+use roster::{Call, Roster};
 use run::{Job, Outcome};
-use std::alloc::{AllocError, Global};
 use supply::Named;
 use trial_tools::{Generator, Plan, Random, Tally};
 
@@ -22,6 +19,9 @@ const COSTS: u16 = 3;
 
 // How many certificates are tried before each change.
 const CUTS: u16 = 5;
+
+// The periods of random lines: each divides 120.
+static PERIODS: [u16; 10] = [3, 4, 5, 6, 8, 10, 12, 15, 20, 24];
 
 // The supplies: the whole processor, timetables, and shares of both.
 static PLANS: [Plan; 9] = [
@@ -76,16 +76,20 @@ static PLANS: [Plan; 9] = [
     },
 ];
 
-// The job of a place that holds none. (The console has one, too: three zeros, which a call would not shorten.)
-const NO_JOB: Job = Job {
-    line: 0,
-    release: 0,
-    cost: 0,
-};
+// A group of which nothing is compared yet.
+macro_rules! none {
+    ($group:expr) => {
+        Tally {
+            group: $group,
+            compared: 0,
+            differ: 0,
+        }
+    };
+}
 
-// The groups of comparisons.
-#[derive(Drop)]
-pub(crate) struct Groups {
+// What every trial works with: the groups of comparisons, and the random numbers.
+#[derive(Clone, Copy)]
+struct Trials {
     calls: Tally,
     cuts: Tally,
     refused_cuts: Tally,
@@ -94,79 +98,80 @@ pub(crate) struct Groups {
     overloads: Tally,
     witnesses: Tally,
     lists: Tally,
-}
-
-// What every trial works with: the heap, the groups of comparisons, and the random numbers.
-#[derive(Drop)]
-struct Trials {
-    heap: Global,
-    groups: Groups,
     random: Random,
 }
 
-// A roster on trial, and what it should be.
+// Nothing is compared yet.
+const START: Trials = Trials {
+    calls: none!("enrols, strikes and recosts"),
+    cuts: none!("cuts that are made"),
+    refused_cuts: none!("cuts that are refused"),
+    states: none!("lines and watch lists after calls"),
+    fits: none!("verdicts of rosters that fit"),
+    overloads: none!("verdicts of rosters that do not"),
+    witnesses: none!("witnesses and their runs"),
+    lists: none!("runs of legal lists on rosters that fit"),
+    random: Random { state: 1 },
+};
+
+// A line more, with a cost up to a bound.
+fn enrol(random: &mut Random, dearest: u16) -> Call<'static> {
+    let period = random.of(&PERIODS);
+    Call::Enrol(random.row(period, dearest))
+}
+
+// A roster on trial, what it should be, and what any slots in a row of its supply are sure to hold.
 #[derive(Drop)]
 struct Trial {
     roster: Roster<Named>,
     model: Model,
-    slots: Slots,
+    plan: Plan,
+    least: Figures,
 }
 
 impl Trial {
-    // One line more.
-    fn enrol(&mut self, trials: &mut Trials, row: Row) -> Result<(), AllocError> {
-        trials.groups.calls.note(self.roster.enrol(row).is_ok());
-        self.model.enrol(row)
-    }
-
     // The number of a line that is there.
     fn line(&self, random: &mut Random) -> u8 {
-        let many = u16::try_from(self.model.rows().len()).unwrap_or(u16::MAX);
-        u8::try_from(random.below(many)).unwrap_or(u8::MAX)
+        let many = self.roster.lines().len();
+        random.below(many as u16) as u8
     }
 
-    // A line less.
-    fn strike(&mut self, trials: &mut Trials) -> Result<(), AllocError> {
-        let line = self.line(&mut trials.random);
-        trials.groups.calls.note(self.roster.strike(line).is_ok());
-        self.model.strike(line)
+    // Another cost for a line.
+    fn recost(&self, random: &mut Random) -> Call<'static> {
+        Call::Recost {
+            line: self.line(random),
+            cost: random.up_to(DEAREST),
+        }
     }
 
-    // Another cost of a line.
-    fn recost(&mut self, trials: &mut Trials) {
-        let line = self.line(&mut trials.random);
-        let cost = trials.random.up_to(DEAREST);
-        trials
-            .groups
-            .calls
-            .note(self.roster.recost(line, cost).is_ok());
-        self.model.recost(line, cost);
+    // Makes a call that is not refused.
+    fn make(&mut self, calls: &mut Tally, call: Call) {
+        calls.note(self.roster.make(call).is_ok());
+        self.model.make(call);
     }
 
     // The deadlines of certificates: those that are watched, or now and then all up to the first rest point.
-    fn list(&self, random: &mut Random) -> WatchList {
+    fn list(&self, random: &mut Random) -> Deadlines {
         if random.below(4) == 0 {
-            return self.roster.lines().full_list();
+            return deadlines(self.model.rows.as_slice());
         }
-        *self.roster.watched()
+        self.model.watched
     }
 
     // A certificate: it is accepted exactly where it is right.
-    fn cut(&mut self, trials: &mut Trials) -> Result<(), AllocError> {
+    fn cut(&mut self, trials: &mut Trials) {
         let list = self.list(&mut trials.random);
-        let certificate = certificate(&mut trials.random, trials.heap, list.as_slice())?;
-        let bytes = certificate.bytes(trials.heap)?;
-        let made = self
-            .roster
-            .cut(certificate.deadline, certificate.divisor, bytes.as_slice())
-            .is_ok();
-        if certificate.is_right(&self.model, &self.slots) {
-            trials.groups.cuts.note(made);
-            self.model.leave(certificate.deadline);
+        let certificate = Certificate::random(&mut trials.random, list.as_slice());
+        let call = Call::Cut {
+            deadline: certificate.deadline,
+            divisor: certificate.divisor,
+            cites: certificate.bytes.as_slice(),
+        };
+        if self.model.accepts(&certificate, &self.least) {
+            self.make(&mut trials.cuts, call);
         } else {
-            trials.groups.refused_cuts.note(!made);
+            trials.refused_cuts.note(self.roster.make(call).is_err());
         }
-        Ok(())
     }
 
     // The run of a list of jobs, which misses a deadline at an instant or ends with all met.
@@ -179,136 +184,105 @@ impl Trial {
         }
     }
 
-    // The witness of an overload at t: the list by the definition, and a phase that begins with the fewest slots up to t. Its run
+    // The witness of an overload at t: the jobs by the definition, and a phase that begins with the fewest slots up to t. Its run
     // misses a deadline at t.
-    fn shows(&self, jobs: &[Job], t: u16) -> bool {
+    fn shows(&self, t: u16) -> bool {
         let mut list = [NO_JOB; 256];
         let Ok(witness) = self.roster.witness(&mut list) else {
             return false;
         };
-        witness.jobs == jobs.len()
-            && list.starts_with(jobs)
-            && self.slots.is_worst(witness.phase, t)
+        let jobs = &list[..witness.jobs.min(256)];
+        is_witness(jobs, self.model.rows.as_slice(), t)
+            && at(&given(&self.plan, witness.phase), t) == at(&self.least, t)
             && self.run(jobs, witness.phase, Some(t))
     }
 
-    // What the roster holds, its verdict, and what shows it: the witness where it is overloaded, and the run of a legal list,
-    // which is met in any phase, where it fits.
-    fn judge(&self, trials: &mut Trials) -> Result<(), AllocError> {
-        let same = self.model.is_lines(self.roster.lines())
-            && self.model.is_list(self.roster.watched().as_slice());
-        trials.groups.states.note(same);
-        let expected = overload(self.model.rows(), &self.slots);
+    // Whether a legal list is met, in any phase.
+    fn meets(&self, random: &mut Random) -> bool {
+        let jobs = legal(self.model.rows.as_slice(), random);
+        let phase = u32::from(random.below(1000));
+        self.run(jobs.as_slice(), phase, None)
+    }
+
+    // What the roster holds, its verdict, and what shows it: the witness where it is overloaded, and the run of a legal list
+    // where it fits.
+    fn judge(&self, trials: &mut Trials) {
+        trials.states.note(self.model.is_held(&self.roster));
+        let expected = self.model.overload(&self.least);
         let agreed = self.roster.verdict() == expected;
         match expected {
             Some(t) => {
-                trials.groups.overloads.note(agreed);
-                let list = jobs::witness(trials.heap, self.model.rows(), t)?;
-                trials.groups.witnesses.note(self.shows(list.as_slice(), t));
+                trials.overloads.note(agreed);
+                trials.witnesses.note(self.shows(t));
             }
             None => {
-                trials.groups.fits.note(agreed);
-                let list = jobs::legal(trials.heap, self.model.rows(), &mut trials.random)?;
-                let phase = u32::from(trials.random.below(1000));
-                trials
-                    .groups
-                    .lists
-                    .note(self.run(list.as_slice(), phase, None));
+                trials.fits.note(agreed);
+                trials.lists.note(self.meets(&mut trials.random));
             }
         }
-        Ok(())
     }
 
-    // Some certificates, the roster after each, and another cost.
-    fn cut_some(&mut self, trials: &mut Trials) -> Result<(), AllocError> {
-        for _ in 0..CUTS {
-            self.cut(trials)?;
-            self.judge(trials)?;
-        }
-        self.recost(trials);
-        Ok(())
-    }
-
-    // Certificates and new costs in turn, and at last a line less.
-    fn work(&mut self, trials: &mut Trials) -> Result<(), AllocError> {
+    // Certificates, the roster after each, and new costs in turn, and at last a line less.
+    fn work(&mut self, trials: &mut Trials) {
         for _ in 0..COSTS {
-            self.cut_some(trials)?;
+            for _ in 0..CUTS {
+                self.cut(trials);
+                self.judge(trials);
+            }
+            let recost = self.recost(&mut trials.random);
+            self.make(&mut trials.calls, recost);
         }
-        self.strike(trials)?;
-        self.judge(trials)
+        let strike = Call::Strike(self.line(&mut trials.random));
+        self.make(&mut trials.calls, strike);
+        self.judge(trials);
     }
 }
 
 impl Trials {
-    // A roster with random lines, on a supply.
-    fn enrolled(&mut self, supply: Named, slots: Slots) -> Result<Trial, AllocError> {
+    // Tries a roster with random lines.
+    fn try_roster(&mut self, supply: Named, plan: Plan, least: Figures) {
         let lines = self.random.up_to(3).saturating_add(1);
         let dearest = self.random.up_to(DEAREST);
         let mut trial = Trial {
             roster: Roster::open(supply),
-            model: Model::none(self.heap),
-            slots,
+            model: Model::none(),
+            plan,
+            least,
         };
         for _ in 0..lines {
-            let row = row(&mut self.random, dearest);
-            trial.enrol(self, row)?;
+            let enrol = enrol(&mut self.random, dearest);
+            trial.make(&mut self.calls, enrol);
         }
-        Ok(trial)
+        trial.work(self);
     }
 
     // Tries rosters on one supply.
-    fn try_plan(&mut self, plan: Plan) -> Result<(), AllocError> {
+    fn try_plan(&mut self, plan: Plan) {
         let Some(supply) = plan.named() else {
-            self.groups.states.note(false);
-            return Ok(());
+            self.states.note(false);
+            return;
         };
-        let slots = Slots::of(plan);
+        let least = least(&plan);
         for _ in 0..ROSTERS {
-            self.enrolled(supply, slots)?.work(self)?;
+            self.try_roster(supply, plan, least);
         }
-        Ok(())
-    }
-}
-
-impl Groups {
-    // Nothing is compared yet.
-    fn none() -> Groups {
-        Groups {
-            calls: Tally::of("enrols, strikes and recosts"),
-            cuts: Tally::of("cuts that are made"),
-            refused_cuts: Tally::of("cuts that are refused"),
-            states: Tally::of("lines and watch lists after calls"),
-            fits: Tally::of("verdicts of rosters that fit"),
-            overloads: Tally::of("verdicts of rosters that do not"),
-            witnesses: Tally::of("witnesses and their runs"),
-            lists: Tally::of("runs of legal lists on rosters that fit"),
-        }
-    }
-
-    // The groups one after another.
-    pub(crate) fn tallies(&self) -> [Tally; 8] {
-        [
-            self.calls,
-            self.cuts,
-            self.refused_cuts,
-            self.states,
-            self.fits,
-            self.overloads,
-            self.witnesses,
-            self.lists,
-        ]
     }
 }
 
 // Tries rosters on every supply.
-pub(crate) fn compared(heap: Global) -> Result<Groups, AllocError> {
-    let mut trials = Trials {
-        heap,
-        groups: Groups::none(),
-        random: Random::new(1),
-    };
+pub(crate) fn compared() -> [Tally; 8] {
+    let mut trials = START;
     for plan in &PLANS {
-        trials.try_plan(*plan)?;
+        trials.try_plan(*plan);
     }
-    Ok(trials.groups)
+    [
+        trials.calls,
+        trials.cuts,
+        trials.refused_cuts,
+        trials.states,
+        trials.fits,
+        trials.overloads,
+        trials.witnesses,
+        trials.lists,
+    ]
 }
