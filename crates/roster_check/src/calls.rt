@@ -1,5 +1,5 @@
 // Calls whose answers are known.
-use crate::snapshot::Snapshot;
+use crate::held::{holds, rows_of};
 use lines::Row;
 use refusal::Refusal;
 use roster::{Call, Roster};
@@ -13,15 +13,26 @@ pub(crate) struct Called {
     pub(crate) refused: Option<Refusal>,
 }
 
-impl Called {
-    // Makes the call. One that should be refused should leave the lines, the watch list and the verdict as they were.
-    pub(crate) fn compare<S: Supply>(&self, tally: &mut Tally, roster: &mut Roster<S>) {
-        let before = Snapshot::of(roster);
-        let answer = roster.make(self.call);
-        tally.note(answer.err() == self.refused);
-        if self.refused.is_some() {
-            tally.note(before.is_of(roster));
-        }
+// Makes a call. One that should be refused should leave the lines, the watch list and the verdict as they were.
+fn compare_call<S: Supply>(tally: &mut Tally, roster: &mut Roster<S>, called: &Called) {
+    let rows = rows_of(roster.lines());
+    let watched = *roster.watched();
+    let verdict = roster.verdict();
+    tally.note(roster.make(called.call).err() == called.refused);
+    if called.refused.is_some() {
+        let same = holds(roster, rows.as_slice(), watched.as_slice());
+        tally.note(same && roster.verdict() == verdict);
+    }
+}
+
+// Makes some calls, one after another.
+pub(crate) fn compare_calls<S: Supply>(
+    tally: &mut Tally,
+    roster: &mut Roster<S>,
+    calls: &[Called],
+) {
+    for called in calls {
+        compare_call(tally, roster, called);
     }
 }
 

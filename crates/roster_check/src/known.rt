@@ -1,9 +1,8 @@
 // Rosters whose figures are known, worked out by hand or published.
-use crate::calls::{Called, enrolled};
-use lines::{Lines, Row};
-use roster::Call;
-use std::iter::successors;
-use supply::Whole;
+use crate::calls::{Called, compare_calls, enrolled};
+use lines::Row;
+use roster::{Call, Roster};
+use supply::{Named, Whole};
 use trial_tools::{Plan, Tally, Watched, refused, rows};
 
 // A roster: its supply and lines, its first rest point and full watch list, some cuts, what they leave, and the verdict,
@@ -18,7 +17,7 @@ struct Case {
     verdict: Option<u16>,
 }
 
-static CASES: [Case; 11] = [
+static CASES: [Case; 10] = [
     Case {
         plan: Plan::WHOLE,
         lines: rows![],
@@ -112,123 +111,6 @@ static CASES: [Case; 11] = [
         ],
         left: Watched::These(&[5, 7, 10, 12, 18, 23, 26, 29, 33, 36, 40, 47, 49, 51, 54, 61]),
         verdict: None,
-    },
-    // Of the 18 five are enough.
-    Case {
-        plan: Plan::WHOLE,
-        lines: rows![(7, 5, 3), (11, 7, 3), (13, 10, 4)],
-        rest: 62,
-        watched: Watched::These(&[
-            5, 7, 10, 12, 18, 19, 23, 26, 29, 33, 36, 40, 47, 49, 51, 54, 61, 62,
-        ]),
-        cuts: &[
-            Called {
-                call: Call::Cut {
-                    deadline: 18,
-                    divisor: 1,
-                    cites: &[0, 7, 0, 1, 0, 10, 0, 1],
-                },
-                refused: None,
-            },
-            Called {
-                call: Call::Cut {
-                    deadline: 23,
-                    divisor: 1,
-                    cites: &[0, 10, 0, 1, 0, 12, 0, 1],
-                },
-                refused: None,
-            },
-            Called {
-                call: Call::Cut {
-                    deadline: 26,
-                    divisor: 1,
-                    cites: &[0, 12, 0, 2],
-                },
-                refused: None,
-            },
-            Called {
-                call: Call::Cut {
-                    deadline: 29,
-                    divisor: 1,
-                    cites: &[0, 7, 0, 1, 0, 10, 0, 1, 0, 12, 0, 1],
-                },
-                refused: None,
-            },
-            Called {
-                call: Call::Cut {
-                    deadline: 33,
-                    divisor: 1,
-                    cites: &[0, 7, 0, 1, 0, 12, 0, 2],
-                },
-                refused: None,
-            },
-            Called {
-                call: Call::Cut {
-                    deadline: 36,
-                    divisor: 1,
-                    cites: &[0, 10, 0, 1, 0, 12, 0, 2],
-                },
-                refused: None,
-            },
-            Called {
-                call: Call::Cut {
-                    deadline: 47,
-                    divisor: 1,
-                    cites: &[0, 5, 0, 1, 0, 40, 0, 1],
-                },
-                refused: None,
-            },
-            Called {
-                call: Call::Cut {
-                    deadline: 49,
-                    divisor: 1,
-                    cites: &[0, 10, 0, 1, 0, 12, 0, 3],
-                },
-                refused: None,
-            },
-            Called {
-                call: Call::Cut {
-                    deadline: 51,
-                    divisor: 1,
-                    cites: &[0, 10, 0, 1, 0, 40, 0, 1],
-                },
-                refused: None,
-            },
-            Called {
-                call: Call::Cut {
-                    deadline: 54,
-                    divisor: 1,
-                    cites: &[0, 12, 0, 1, 0, 40, 0, 1],
-                },
-                refused: None,
-            },
-            Called {
-                call: Call::Cut {
-                    deadline: 61,
-                    divisor: 1,
-                    cites: &[0, 5, 0, 1, 0, 12, 0, 1, 0, 40, 0, 1],
-                },
-                refused: None,
-            },
-            Called {
-                call: Call::Cut {
-                    deadline: 62,
-                    divisor: 1,
-                    cites: &[0, 10, 0, 1, 0, 12, 0, 1, 0, 40, 0, 1],
-                },
-                refused: None,
-            },
-            Called {
-                call: Call::Cut {
-                    deadline: 19,
-                    divisor: 1,
-                    cites: &[0, 7, 0, 1, 0, 12, 0, 1],
-                },
-                refused: None,
-            },
-        ],
-        left: Watched::These(&[5, 7, 10, 12, 40]),
-        verdict: Some(12),
     },
     // 25 is overloaded and not watched; 38 is the first of the watched ones.
     Case {
@@ -326,8 +208,126 @@ static CASES: [Case; 11] = [
     },
 ];
 
+// Of the 18 deadlines that 7/5, 11/7 and 13/10 watch five are enough.
+static FIVE_OF_18: Case = Case {
+    plan: Plan::WHOLE,
+    lines: rows![(7, 5, 3), (11, 7, 3), (13, 10, 4)],
+    rest: 62,
+    watched: Watched::These(&[
+        5, 7, 10, 12, 18, 19, 23, 26, 29, 33, 36, 40, 47, 49, 51, 54, 61, 62,
+    ]),
+    cuts: &[
+        Called {
+            call: Call::Cut {
+                deadline: 18,
+                divisor: 1,
+                cites: &[0, 7, 0, 1, 0, 10, 0, 1],
+            },
+            refused: None,
+        },
+        Called {
+            call: Call::Cut {
+                deadline: 23,
+                divisor: 1,
+                cites: &[0, 10, 0, 1, 0, 12, 0, 1],
+            },
+            refused: None,
+        },
+        Called {
+            call: Call::Cut {
+                deadline: 26,
+                divisor: 1,
+                cites: &[0, 12, 0, 2],
+            },
+            refused: None,
+        },
+        Called {
+            call: Call::Cut {
+                deadline: 29,
+                divisor: 1,
+                cites: &[0, 7, 0, 1, 0, 10, 0, 1, 0, 12, 0, 1],
+            },
+            refused: None,
+        },
+        Called {
+            call: Call::Cut {
+                deadline: 33,
+                divisor: 1,
+                cites: &[0, 7, 0, 1, 0, 12, 0, 2],
+            },
+            refused: None,
+        },
+        Called {
+            call: Call::Cut {
+                deadline: 36,
+                divisor: 1,
+                cites: &[0, 10, 0, 1, 0, 12, 0, 2],
+            },
+            refused: None,
+        },
+        Called {
+            call: Call::Cut {
+                deadline: 47,
+                divisor: 1,
+                cites: &[0, 5, 0, 1, 0, 40, 0, 1],
+            },
+            refused: None,
+        },
+        Called {
+            call: Call::Cut {
+                deadline: 49,
+                divisor: 1,
+                cites: &[0, 10, 0, 1, 0, 12, 0, 3],
+            },
+            refused: None,
+        },
+        Called {
+            call: Call::Cut {
+                deadline: 51,
+                divisor: 1,
+                cites: &[0, 10, 0, 1, 0, 40, 0, 1],
+            },
+            refused: None,
+        },
+        Called {
+            call: Call::Cut {
+                deadline: 54,
+                divisor: 1,
+                cites: &[0, 12, 0, 1, 0, 40, 0, 1],
+            },
+            refused: None,
+        },
+        Called {
+            call: Call::Cut {
+                deadline: 61,
+                divisor: 1,
+                cites: &[0, 5, 0, 1, 0, 12, 0, 1, 0, 40, 0, 1],
+            },
+            refused: None,
+        },
+        Called {
+            call: Call::Cut {
+                deadline: 62,
+                divisor: 1,
+                cites: &[0, 10, 0, 1, 0, 12, 0, 1, 0, 40, 0, 1],
+            },
+            refused: None,
+        },
+        Called {
+            call: Call::Cut {
+                deadline: 19,
+                divisor: 1,
+                cites: &[0, 7, 0, 1, 0, 12, 0, 1],
+            },
+            refused: None,
+        },
+    ],
+    left: Watched::These(&[5, 7, 10, 12, 40]),
+    verdict: Some(12),
+};
+
 // The groups of known figures.
-#[derive(Drop)]
+#[derive(Clone, Copy)]
 struct Known {
     rests: Tally,
     lists: Tally,
@@ -344,26 +344,41 @@ impl Known {
         };
         let mut roster = enrolled(supply, case.lines);
         self.rests.note(roster.lines().first_rest() == case.rest);
-        self.lists.note(case.watched.are(roster.watched()));
-        self.verdicts.note(roster.verdict() == case.verdict);
-        for cut in case.cuts {
-            cut.compare(&mut self.cuts, &mut roster);
-        }
-        self.lists.note(case.left.are(roster.watched()));
-        self.verdicts.note(roster.verdict() == case.verdict);
+        self.compare_held(&roster, &case.watched, case.verdict);
+        compare_calls(&mut self.cuts, &mut roster, case.cuts);
+        self.compare_held(&roster, &case.left, case.verdict);
+    }
+
+    // The figures of 7/5, 11/7 and 13/10.
+    fn compare_three(&mut self) {
+        self.compare(&FIVE_OF_18);
+        self.lists.note(deadlines_of_three() == 281);
+    }
+
+    // What a roster watches, and its verdict.
+    fn compare_held(&mut self, roster: &Roster<Named>, watched: &Watched, verdict: Option<u16>) {
+        self.lists.note(watched.are(roster.watched()));
+        self.verdicts.note(roster.verdict() == verdict);
     }
 }
 
-// How many deadlines some lines have up to a last one.
-fn deadlines_to(lines: &Lines, last: u16) -> usize {
-    successors(lines.next_deadline(0, last), |at| {
-        lines.next_deadline(*at, last)
-    })
-    .take(usize::from(last))
-    .count()
+// How many deadlines 7/5, 11/7 and 13/10 have in their hyperperiod of 1,001.
+fn deadlines_of_three() -> u16 {
+    let three = enrolled(Whole, rows![(7, 5, 1), (11, 7, 1), (13, 10, 1)]);
+    let last = three.lines().hyperperiod();
+    let mut many = 0;
+    let mut at = 0;
+    for number in 1..=last {
+        let Some(next) = three.lines().next_deadline(at, last) else {
+            break;
+        };
+        many = number;
+        at = next;
+    }
+    many
 }
 
-// Compares every known figure. 7/5, 11/7 and 13/10 have 281 deadlines in their hyperperiod of 1,001.
+// Compares every known figure.
 pub(crate) fn compared() -> [Tally; 4] {
     let mut known = Known {
         rests: Tally::of("known rest points"),
@@ -374,7 +389,6 @@ pub(crate) fn compared() -> [Tally; 4] {
     for case in &CASES {
         known.compare(case);
     }
-    let three = enrolled(Whole, rows![(7, 5, 1), (11, 7, 1), (13, 10, 1)]);
-    known.lists.note(deadlines_to(three.lines(), three.lines().hyperperiod()) == 281);
+    known.compare_three();
     [known.rests, known.lists, known.cuts, known.verdicts]
 }

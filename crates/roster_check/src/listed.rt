@@ -1,8 +1,10 @@
 // Lists of calls, made in one go, on three supplies.
+use crate::held::holds;
 use crate::nothing::Nothing;
-use roster::{Call, Roster, after, judged};
+use lines::Row;
+use roster::{Call, after, judged};
 use supply::{Share, Supply, Whole};
-use trial_tools::{Tally, row};
+use trial_tools::{Tally, row, rows};
 
 // Calls that end with 8/6 and 13/12 at costs 2 and 10; the second, fifth, sixth and last are refused.
 static CALLS: [Call; 8] = [
@@ -24,18 +26,15 @@ static CALLS: [Call; 8] = [
     },
 ];
 
-// Whether a roster has the two lines and no more, and watches these deadlines.
-fn holds<S>(roster: &Roster<S>, watched: &[u16]) -> bool {
-    let rows = roster.lines().iter().map(|line| line.row());
-    rows.eq([row!(8, 6, 2), row!(13, 12, 10)]) && roster.watched().as_slice() == watched
-}
+// The lines that the calls leave.
+static LEFT: &[Row; 2] = rows![(8, 6, 2), (13, 12, 10)];
 
 // Makes the calls on a supply.
 fn compare<S: Supply + Copy>(tally: &mut Tally, supply: S, watched: &[u16], verdict: u16) {
     let (roster, overloaded) = judged(supply, &CALLS);
-    tally.note(holds(&roster, watched));
+    tally.note(holds(&roster, LEFT, watched));
     tally.note(overloaded == Some(verdict));
-    tally.note(holds(&after(supply, &CALLS), watched));
+    tally.note(holds(&after(supply, &CALLS), LEFT, watched));
 }
 
 // The calls on the whole processor, on two thirds of it, where 25 is not cut, and on a supply that gives nothing.

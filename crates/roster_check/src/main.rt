@@ -3,34 +3,28 @@
 
 mod bad_input;
 mod calls;
+mod held;
 mod known;
 mod listed;
 mod nothing;
-mod snapshot;
 mod witnesses;
 
 use trial_tools::print;
 
 // Prints for each group how many answers were compared and how many differ.
 fn compare(rt: &HostRuntime) -> anyhow::Result<()> {
-    print(rt, &known::compared())?;
-    let bad = [
-        bad_input::enrols(),
-        bad_input::numbers(),
-        bad_input::costs(),
-        bad_input::cuts(),
-        bad_input::lengths(),
-        bad_input::runs(),
+    let listed = [
+        witnesses::compared(),
+        nothing::compared(),
+        listed::compared(),
     ];
-    print(rt, &bad)?;
-    print(
-        rt,
-        &[
-            witnesses::compared(),
-            nothing::compared(),
-            listed::compared(),
-        ],
-    )?;
+    for groups in [
+        known::compared().as_slice(),
+        bad_input::compared().as_slice(),
+        listed.as_slice(),
+    ] {
+        print(rt, groups)?;
+    }
     Ok(())
 }
 

@@ -1,8 +1,8 @@
 ghost use Rattle.roster_check.specs.Nothing.{nothing};
 ghost use Rattle.std.proofs.Common.{rules};
 
-use crate::calls::{Called, enrolled};
-use roster::Call;
+use crate::calls::{Called, compare_calls, enrolled};
+use roster::{Call, Roster};
 use run::{Job, Outcome};
 use supply::Supply;
 use trial_tools::{Tally, refused, rows};
@@ -75,20 +75,27 @@ static JOBS: [Job; 2] = [
     },
 ];
 
-// Compares a roster on this supply: without lines it fits, with lines it is overloaded at their first deadline, and a run of
-// a job misses that in slots that are not given.
-pub(crate) fn compared() -> Tally {
-    let mut tally = Tally::of("a supply that gives nothing");
-    tally.note(enrolled(Nothing, &[]).verdict().is_none());
-    let mut roster = enrolled(Nothing, rows![(8, 6, 2), (13, 12, 10)]);
-    for cut in &CUTS {
-        cut.compare(&mut tally, &mut roster);
-    }
-    tally.note(roster.watched().as_slice() == [6, 12, 14, 22, 38].as_slice());
-    tally.note(roster.verdict() == Some(6));
+// A run of a job misses it in slots that are not given.
+fn compare_run(tally: &mut Tally, roster: &Roster<Nothing>) {
     let mut slots = [0; 12];
     let answer = roster.run(7, &JOBS, &mut slots);
     tally.note(answer == Ok(Outcome::Missed { job: 1, at: 6 }));
     tally.note(slots == [65_535; 12]);
+}
+
+// With lines the roster is overloaded at their first deadline, whatever is cut.
+fn compare_cuts(tally: &mut Tally, roster: &mut Roster<Nothing>) {
+    compare_calls(tally, roster, &CUTS);
+    tally.note(roster.watched().as_slice() == [6, 12, 14, 22, 38].as_slice());
+    tally.note(roster.verdict() == Some(6));
+}
+
+// Compares a roster on this supply: without lines it fits.
+pub(crate) fn compared() -> Tally {
+    let mut tally = Tally::of("a supply that gives nothing");
+    tally.note(enrolled(Nothing, &[]).verdict().is_none());
+    let mut roster = enrolled(Nothing, rows![(8, 6, 2), (13, 12, 10)]);
+    compare_cuts(&mut tally, &mut roster);
+    compare_run(&mut tally, &roster);
     tally
 }

@@ -1,18 +1,20 @@
 // Witnesses of overloaded rosters, and how they are refused.
 use crate::calls::enrolled;
 use lines::Row;
-use refusal::{Layer, Reason, Refusal};
-use roster::Roster;
+use refusal::Refusal;
+use roster::{Roster, Witness};
 use run::{Job, Outcome};
 use supply::{Named, Whole};
-use trial_tools::{Plan, Tally, holds, job, rows};
+use trial_tools::{Plan, Tally, holds, job, refused, rows};
 
-// An overloaded roster: its supply and lines, the jobs and the phase of its witness, and the job that its run misses, and when.
+// An overloaded roster: its supply and lines, its witness and the jobs of it, how a list is refused that is too short for them,
+// and the job that their run misses, and when.
 struct Case {
     plan: Plan,
     lines: &'static [Row],
+    witness: Witness,
     jobs: &'static [Job],
-    phase: u32,
+    short: Option<Refusal>,
     missed: Outcome,
 }
 
@@ -20,15 +22,17 @@ static CASES: [Case; 2] = [
     Case {
         plan: Plan::WHOLE,
         lines: rows![(7, 5, 3), (11, 7, 3), (13, 10, 4)],
+        witness: Witness { phase: 0, jobs: 4 },
         jobs: &[job!(0, 0, 3), job!(1, 0, 3), job!(2, 0, 4), job!(0, 7, 3)],
-        phase: 0,
+        short: refused!(ListTooShort, 4),
         missed: Outcome::Missed { job: 3, at: 12 },
     },
     Case {
         plan: Plan::TWO_THIRDS,
         lines: rows![(8, 5, 2), (15, 9, 5)],
+        witness: Witness { phase: 2, jobs: 2 },
         jobs: &[job!(0, 0, 2), job!(1, 0, 5)],
-        phase: 2,
+        short: refused!(ListTooShort, 2),
         missed: Outcome::Missed { job: 1, at: 9 },
     },
 ];
@@ -36,24 +40,22 @@ static CASES: [Case; 2] = [
 // What every place of a list holds before.
 const BEFORE: Job = job!(77, 777, 7);
 
-// The witness, written into a list: one that is too short is refused with the length that is needed.
-fn compare_witness(tally: &mut Tally, roster: &Roster<Named>, case: &Case, list: &mut [Job]) {
-    let needed = case.jobs.len();
-    match roster.witness(list) {
-        Ok(witness) => tally.note(
-            witness.jobs == needed && witness.phase == case.phase && holds(list, case.jobs, BEFORE),
-        ),
-        Err(refusal) => tally.note(
-            list.len() < needed
-                && refusal.reason == Reason::ListTooShort
-                && refusal.layer == Layer::Roster
-                && refusal.place as usize == needed
-                && holds(list, &[], BEFORE),
-        ),
+// Whether the witness is written into a list that is long enough; one that is too short is refused and stays as it was.
+fn is_written(roster: &Roster<Named>, case: &Case, list: &mut [Job]) -> bool {
+    let answer = roster.witness(list);
+    if list.len() < case.jobs.len() {
+        return answer.err() == case.short && holds(list, &[], BEFORE);
     }
+    answer == Ok(case.witness) && holds(list, case.jobs, BEFORE)
 }
 
-// Lists of every length up to 6, and the run of what is written into the last of them.
+// Whether the run of the witness misses the job.
+fn is_missed(roster: &Roster<Named>, case: &Case) -> bool {
+    let mut slots = [0; 12];
+    roster.run(case.witness.phase, case.jobs, &mut slots) == Ok(case.missed)
+}
+
+// Lists of every length up to 6, and the run of the jobs.
 fn compare_case(tally: &mut Tally, case: &Case) {
     let Some(supply) = case.plan.named() else {
         tally.note(false);
@@ -61,22 +63,16 @@ fn compare_case(tally: &mut Tally, case: &Case) {
     };
     let roster = enrolled(supply, case.lines);
     for many in 0..7 {
-        let mut list = [BEFORE; 6];
-        compare_witness(tally, &roster, case, &mut list[..many]);
+        tally.note(is_written(&roster, case, &mut [BEFORE; 6][..many]));
     }
-    let mut list = [BEFORE; 6];
-    let _ = roster.witness(&mut list);
-    let jobs = &list[..case.jobs.len().min(6)];
-    let mut slots = [0; 12];
-    tally.note(roster.run(case.phase, jobs, &mut slots) == Ok(case.missed));
+    tally.note(is_missed(&roster, case));
 }
 
-// Lines that fit have no witness.
-fn compare_fitting(tally: &mut Tally, lines: &[Row]) {
+// Whether some lines fit, and have no witness.
+fn fit(lines: &[Row]) -> bool {
     let mut list = [BEFORE; 6];
     let answer = enrolled(Whole, lines).witness(&mut list);
-    let none = Refusal::by(Layer::Roster, Reason::NothingOverloaded);
-    tally.note(answer == Err(none) && holds(&list, &[], BEFORE));
+    answer.err() == refused!(NothingOverloaded) && holds(&list, &[], BEFORE)
 }
 
 // Compares the witnesses.
@@ -85,7 +81,7 @@ pub(crate) fn compared() -> Tally {
     for case in &CASES {
         compare_case(&mut tally, case);
     }
-    compare_fitting(&mut tally, &[]);
-    compare_fitting(&mut tally, rows![(8, 5, 2), (15, 9, 5)]);
+    tally.note(fit(&[]));
+    tally.note(fit(rows![(8, 5, 2), (15, 9, 5)]));
     tally
 }
