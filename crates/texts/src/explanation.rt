@@ -2,10 +2,15 @@
 mod absent;
 mod beyond;
 mod covered;
+mod reasoning;
 mod watched;
 
 use crate::certificate::Certificate;
-use crate::explanation::covered::covered;
+use crate::explanation::absent::Absent;
+use crate::explanation::beyond::Beyond;
+use crate::explanation::covered::Covered;
+use crate::explanation::reasoning::explain;
+use crate::explanation::watched::Watched;
 use lines::{Line, Row};
 use roster::Roster;
 use std::fmt;
@@ -25,14 +30,10 @@ impl<'a, S: Supply> Explanation<'a, S> {
         self.at > 0 && line.count(self.at) > line.count(self.at - 1)
     }
 
-    // Whether any line has a job due just at the instant.
-    fn is_deadline(&self) -> bool {
-        self.roster.lines().iter().any(|line| self.is_due(line))
-    }
-
-    // Names each line that has a job due just at the instant.
-    fn owners<W: fmt::Write>(&self, f: &mut fmt::Formatter<W>) -> fmt::Result {
+    // Names each line that has a job due just at the instant, and answers whether there is one.
+    fn owners<W: fmt::Write>(&self, f: &mut fmt::Formatter<W>) -> Result<bool, fmt::Error> {
         let at = self.at;
+        let mut found = false;
         for (number, line) in self.roster.lines().iter().enumerate() {
             if self.is_due(line) {
                 let Row {
@@ -45,24 +46,34 @@ impl<'a, S: Supply> Explanation<'a, S> {
                     f,
                     "{at} is a deadline of line {number}: {deadline} + {turns} x {period}\n"
                 )?;
+                found = true;
             }
         }
-        Ok(())
+        Ok(found)
     }
 }
 
 impl<'a, S: Supply> fmt::Display for Explanation<'a, S> {
     fn fmt<W: fmt::Write>(&self, f: &mut fmt::Formatter<W>) -> fmt::Result {
-        if !self.is_deadline() {
-            return self.absent(f);
+        let roster = self.roster;
+        let lines = roster.lines();
+        let at = self.at;
+        if !self.owners(f)? {
+            return explain(f, lines, &Absent { at });
         }
-        self.owners(f)?;
-        if self.roster.watched().contains(self.at) {
-            return self.watched(f);
+        if roster.watched().contains(at) {
+            return explain(f, lines, &Watched { roster, at });
         }
         match self.cut {
-            Some(certificate) => covered(f, self.roster, certificate),
-            None => self.beyond(f),
+            Some(certificate) => explain(
+                f,
+                lines,
+                &Covered {
+                    roster,
+                    certificate,
+                },
+            ),
+            None => explain(f, lines, &Beyond::new(roster, at)),
         }
     }
 }

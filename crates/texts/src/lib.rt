@@ -8,7 +8,6 @@ mod due;
 mod explanation;
 mod jobs;
 mod run_text;
-mod slots;
 mod survey;
 
 pub use certificate::Certificate;

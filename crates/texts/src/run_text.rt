@@ -1,6 +1,5 @@
 use crate::chart::Chart;
 use crate::due::due;
-use crate::slots::Slots;
 use lines::Lines;
 use run::{Job, Outcome};
 use std::fmt;
@@ -21,11 +20,11 @@ impl<'a> RunText<'a> {
         if let Outcome::Missed { at, .. } = self.outcome {
             return usize::from(at);
         }
-        self.jobs
-            .iter()
-            .map(|job| due(self.lines, *job))
-            .max()
-            .map_or(0, usize::from)
+        let mut end = 0;
+        for job in self.jobs {
+            end = due(self.lines, *job).max(end);
+        }
+        usize::from(end)
     }
 
     // The entries up to the end of the run.
@@ -41,14 +40,10 @@ impl<'a> fmt::Display for RunText<'a> {
             Outcome::Met => f.write_str("all met\n")?,
             Outcome::Missed { job, at } => write!(f, "missed job {job} at {at}\n")?,
         }
-        let entries = self.entries();
-        let slots = Slots { entries };
         let chart = Chart {
-            lines: self.lines,
-            jobs: self.jobs,
-            entries,
-            outcome: self.outcome,
+            run: &*self,
+            entries: self.entries(),
         };
-        write!(f, "slots{slots}\n{chart}")
+        chart.show(f)
     }
 }

@@ -13,17 +13,14 @@ const DUE: char = 'v';
 const BOTH: char = 'x';
 
 impl<'a> Row<'a> {
-    // Whether a job of the line is released at an instant.
-    fn releases(&self, at: usize) -> bool {
-        self.chart
-            .jobs
-            .iter()
-            .any(|job| self.owns(*job) && usize::from(job.release) == at)
-    }
-
     // The mark of an instant at which a job of the line is due.
     fn due_mark(&self, at: usize) -> char {
-        if self.releases(at) { BOTH } else { DUE }
+        for job in self.chart.run.jobs {
+            if self.owns(*job) && usize::from(job.release) == at {
+                return BOTH;
+            }
+        }
+        DUE
     }
 
     // Puts a mark at an instant, behind so many characters of the row, and answers how many there are then. A mark that
@@ -47,9 +44,9 @@ impl<'a> Row<'a> {
     // The marks of the line. Where there are none, there is no row for them.
     pub(crate) fn marks<W: fmt::Write>(&self, f: &mut fmt::Formatter<W>) -> fmt::Result {
         let mut written = 0;
-        for job in self.chart.jobs {
+        for job in self.chart.run.jobs {
             if self.owns(*job) {
-                let due = usize::from(due(self.chart.lines, *job));
+                let due = usize::from(due(self.chart.run.lines, *job));
                 written = self.put(f, written, usize::from(job.release), RELEASE)?;
                 written = self.put(f, written, due, self.due_mark(due))?;
             }

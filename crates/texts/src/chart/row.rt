@@ -14,8 +14,8 @@ const QUIET: char = '.';
 // A given slot that goes to another line while a job of this one waits.
 const WAITING: char = '_';
 
-// The end of a run at which a job of the line missed its deadline.
-const MISSED: char = '!';
+// The end of the row where the run ended at a deadline that a job of the line missed.
+const MISSED: &str = "!\n";
 
 // The entry of the slots that run the job at a place.
 fn entry_of(place: usize) -> usize {
@@ -27,19 +27,13 @@ fn digit(place: usize) -> char {
     char::from(b'0' + (place % 10) as u8)
 }
 
-// The sign of a slot at which no job of the line wants to run.
-fn quiet(entry: u16) -> char {
-    if entry == NOT_GIVEN { CLOSED } else { QUIET }
-}
-
-// The sign of a slot at which the job at a place wants to run.
-fn open(entry: u16, place: usize) -> char {
-    if entry == NOT_GIVEN {
-        CLOSED
-    } else if usize::from(entry) == entry_of(place) {
-        digit(place)
-    } else {
-        WAITING
+// The sign of a slot, where the job at a place wants to run, or none of the line.
+fn sign(entry: u16, wanting: Option<usize>) -> char {
+    match wanting {
+        _ if entry == NOT_GIVEN => CLOSED,
+        None => QUIET,
+        Some(place) if usize::from(entry) == entry_of(place) => digit(place),
+        Some(_) => WAITING,
     }
 }
 
@@ -60,7 +54,7 @@ impl<'a> Row<'a> {
     // The instant from which a job wants no more slots: it has had its cost, or its deadline or the end of the run has come.
     fn settled(&self, place: usize, job: Job) -> usize {
         let entries = self.chart.entries;
-        let last = usize::from(due(self.chart.lines, job)).min(entries.len());
+        let last = usize::from(due(self.chart.run.lines, job)).min(entries.len());
         let mut left = job.cost;
         for (s, entry) in entries
             .iter()
@@ -78,18 +72,16 @@ impl<'a> Row<'a> {
         last
     }
 
-    // The signs of the slots from one instant to another.
-    fn signs<W: fmt::Write, F: Fn(u16) -> char>(
+    // The signs of the slots from one instant to another, where the job at a place wants to run, or none of the line.
+    fn signs<W: fmt::Write>(
         &self,
         f: &mut fmt::Formatter<W>,
         from: usize,
         to: usize,
-        sign: F,
-    ) -> fmt::Result
-        requires { F.IsAlwaysCallable sign }
-    {
+        wanting: Option<usize>,
+    ) -> fmt::Result {
         for entry in self.chart.entries.iter().take(to).skip(from) {
-            f.write_char(sign(*entry))?;
+            f.write_char(sign(*entry, wanting))?;
         }
         Ok(())
     }
@@ -98,42 +90,37 @@ impl<'a> Row<'a> {
     fn slots<W: fmt::Write>(&self, f: &mut fmt::Formatter<W>) -> fmt::Result {
         let to = self.columns.end;
         let mut at = self.columns.start;
-        for (place, job) in self.chart.jobs.iter().enumerate() {
+        for (place, job) in self.chart.run.jobs.iter().enumerate() {
             if self.owns(*job) && usize::from(job.release) < to {
                 let release = usize::from(job.release).max(at);
-                self.signs(f, at, release, quiet)?;
+                self.signs(f, at, release, None)?;
                 at = self.settled(place, *job).min(to).max(release);
-                self.signs(f, release, at, |entry| open(entry, place))?;
+                self.signs(f, release, at, Some(place))?;
             }
         }
-        self.signs(f, at, to, quiet)
+        self.signs(f, at, to, None)
     }
 
     // Whether a job of the line missed its deadline.
     fn missed(&self) -> bool {
-        let Outcome::Missed { job, .. } = self.chart.outcome else {
+        let Outcome::Missed { job, .. } = self.chart.run.outcome else {
             return false;
         };
-        self.chart
-            .jobs
-            .get(usize::from(job))
-            .is_some_and(|job| self.owns(*job))
+        match self.chart.run.jobs.get(usize::from(job)) {
+            Some(job) => self.owns(*job),
+            None => false,
+        }
     }
-}
 
-// The row, and below it the marks.
-impl<'a> fmt::Display for Row<'a> {
-    fn fmt<W: fmt::Write>(&self, f: &mut fmt::Formatter<W>) -> fmt::Result {
+    // The row, and below it the marks.
+    pub(crate) fn show<W: fmt::Write>(&self, f: &mut fmt::Formatter<W>) -> fmt::Result {
+        let entries = self.chart.entries;
         let line = self.line;
-        write!(f, "line {line}")?;
-        if !self.chart.entries.is_empty() {
-            f.write_str("  ")?;
-        }
+        let gap = if entries.is_empty() { "" } else { "  " };
+        write!(f, "line {line}{gap}")?;
         self.slots(f)?;
-        if self.columns.end > self.chart.entries.len() && self.missed() {
-            f.write_char(MISSED)?;
-        }
-        f.write_str("\n")?;
+        let is_missed = self.columns.end > entries.len() && self.missed();
+        f.write_str(if is_missed { MISSED } else { "\n" })?;
         self.marks(f)
     }
 }

@@ -1,43 +1,21 @@
 use std::fmt;
 use std::ops::Range;
 
-// The sign of an instant on the ruler.
-fn tick(at: usize) -> char {
-    match at % 10 {
-        0 => '|',
-        5 => '+',
-        _ => '-',
-    }
-}
+// The ticks of a full width and of the instant behind it: a bar for every tenth instant, a cross for every fifth between them.
+const TICKS: &str = "|----+----|----+----|----+----|----+----|----+----|----+----|";
 
-// Every tenth instant of some columns by its number.
-fn numbers<W: fmt::Write>(f: &mut fmt::Formatter<W>, columns: &Range<usize>) -> fmt::Result {
-    for at in (columns.start..columns.end).step_by(10) {
-        if at.saturating_add(10) < columns.end {
-            write!(f, "{at:<10}")?;
-        } else {
-            write!(f, "{at}")?;
-        }
-    }
-    Ok(())
-}
-
-// A tick for each instant of some columns.
-fn ticks<W: fmt::Write>(f: &mut fmt::Formatter<W>, columns: &Range<usize>) -> fmt::Result {
-    for at in columns.start..columns.end {
-        f.write_char(tick(at))?;
-    }
-    Ok(())
-}
-
-// The ruler over the rows: the numbers, and below them the ticks.
+// The ruler over the rows: every tenth instant of some columns by its number, and below them a tick for each.
 pub(crate) fn ruler<W: fmt::Write>(
     f: &mut fmt::Formatter<W>,
     columns: &Range<usize>,
 ) -> fmt::Result {
     f.write_str("slot    ")?;
-    numbers(f, columns)?;
-    f.write_str("\n        ")?;
-    ticks(f, columns)?;
-    f.write_str("\n")
+    for at in (columns.start..columns.end).step_by(10) {
+        // No blanks stand behind the last.
+        let is_last = at.saturating_add(10) >= columns.end;
+        let width = if is_last { 0 } else { 10 };
+        write!(f, "{at:<width$}")?;
+    }
+    let many = columns.end.saturating_sub(columns.start);
+    write!(f, "\n        {TICKS:.many$}\n")
 }

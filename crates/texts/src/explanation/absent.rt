@@ -1,40 +1,41 @@
-use crate::explanation::Explanation;
+use crate::explanation::reasoning::Reasoning;
 use lines::{Line, Row};
 use std::fmt;
-use supply::Supply;
 
-// The deadlines of a line around an instant.
-fn around<W: fmt::Write>(
-    f: &mut fmt::Formatter<W>,
-    number: usize,
-    line: Line,
-    at: u16,
-) -> fmt::Result {
-    let Row {
-        period,
-        deadline,
-        ..
-    } = line.row();
-    let next = line.deadline_after(at);
-    write!(f, "line {number} is due at {deadline} + k x {period}: ")?;
-    if line.count(at) == 0 {
-        return write!(f, "first at {next}\n");
-    }
-    let last = next.saturating_sub(u32::from(period));
-    write!(f, "last at {last}, next at {next}\n")
+// An instant at which no line has a job due.
+#[derive(Drop)]
+pub(crate) struct Absent {
+    pub(crate) at: u16,
 }
 
-impl<'a, S: Supply> Explanation<'a, S> {
-    // An instant at which no line has a job due.
-    pub(crate) fn absent<W: fmt::Write>(&self, f: &mut fmt::Formatter<W>) -> fmt::Result {
+impl Reasoning for Absent {
+    fn open<W: fmt::Write>(&self, f: &mut fmt::Formatter<W>) -> fmt::Result {
         let at = self.at;
         write!(
             f,
             "{at} is no deadline of this roster, so it is not watched\n"
-        )?;
-        for (number, line) in self.roster.lines().iter().enumerate() {
-            around(f, number, line, at)?;
+        )
+    }
+
+    // The deadlines of the line around the instant.
+    fn line<W: fmt::Write>(&self, f: &mut fmt::Formatter<W>, line: Line) -> fmt::Result {
+        let Row {
+            period,
+            deadline,
+            ..
+        } = line.row();
+        let next = line.deadline_after(self.at);
+        if line.count(self.at) == 0 {
+            return write!(f, " is due at {deadline} + k x {period}: first at {next}\n");
         }
+        let last = next.saturating_sub(u32::from(period));
+        write!(
+            f,
+            " is due at {deadline} + k x {period}: last at {last}, next at {next}\n"
+        )
+    }
+
+    fn close<W: fmt::Write>(&self, f: &mut fmt::Formatter<W>) -> fmt::Result {
         f.write_str("demand grows only at deadlines, and least never falls\n")
     }
 }
