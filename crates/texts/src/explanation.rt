@@ -30,22 +30,32 @@ impl<'a, S: Supply> Explanation<'a, S> {
         self.at > 0 && line.count(self.at) > line.count(self.at - 1)
     }
 
-    // Names each line that has a job due just at the instant, and answers whether there is one.
-    fn owners<W: fmt::Write>(&self, f: &mut fmt::Formatter<W>) -> Result<bool, fmt::Error> {
+    // Names a line that has a job due just at the instant.
+    fn owner<W: fmt::Write>(
+        &self,
+        f: &mut fmt::Formatter<W>,
+        number: usize,
+        line: Line,
+    ) -> fmt::Result {
         let at = self.at;
+        let Row {
+            period,
+            deadline,
+            ..
+        } = line.row();
+        let turns = line.count(at).saturating_sub(1);
+        write!(
+            f,
+            "{at} is a deadline of line {number}: {deadline} + {turns} x {period}\n"
+        )
+    }
+
+    // Names each such line, and answers whether there is one.
+    fn owners<W: fmt::Write>(&self, f: &mut fmt::Formatter<W>) -> Result<bool, fmt::Error> {
         let mut found = false;
         for (number, line) in self.roster.lines().iter().enumerate() {
             if self.is_due(line) {
-                let Row {
-                    period,
-                    deadline,
-                    ..
-                } = line.row();
-                let turns = line.count(at).saturating_sub(1);
-                write!(
-                    f,
-                    "{at} is a deadline of line {number}: {deadline} + {turns} x {period}\n"
-                )?;
+                self.owner(f, number, line)?;
                 found = true;
             }
         }
