@@ -35,22 +35,30 @@ fn told(heap: Global, line: &[u8], trouble: Trouble) -> Result<String, AllocErro
     }
 }
 
-// What the words of a line answer.
+// What the words of a line answer. A blank line has none, and gets no answer.
 fn obey_line<S: Obey>(session: &mut S, heap: Global, line: &[u8]) -> Result<String, Trouble> {
-    let text = std::str::from_utf8(line).map_err(|_| Trouble::Usage(Usage::Text))?;
+    let Ok(text) = std::str::from_utf8(line) else {
+        return Err(Trouble::Usage(Usage::Text));
+    };
     let words: Vec<&str> = text.split_ascii_whitespace().collect(heap)?;
-    session.obey(words.as_slice())
+    match words.as_slice() {
+        [name, words @ ..] => session.obey(name, words),
+        [] => Ok(String::new(heap)),
+    }
 }
 
-// The answer to one line of input, whatever bytes it holds. A blank line and a comment get none.
+// The answer to one line of input, whatever bytes it holds. A comment gets none.
 pub(crate) fn answer<S: Obey>(
     session: &mut S,
     heap: Global,
     line: &[u8],
 ) -> Result<String, AllocError> {
     let line = line.trim_ascii();
-    if line.is_empty() || line.starts_with(b"#") {
+    if line.starts_with(b"#") {
         return Ok(String::new(heap));
     }
-    obey_line(session, heap, line).or_else(|trouble| told(heap, line, trouble))
+    match obey_line(session, heap, line) {
+        Ok(answer) => Ok(answer),
+        Err(trouble) => told(heap, line, trouble),
+    }
 }

@@ -1,10 +1,11 @@
 // Commands that ask a supply.
+use crate::answers::figure;
 use crate::surveying::survey;
 use crate::trouble::Trouble;
 use crate::usage::Usage;
-use crate::words::{all, number};
+use crate::words::{all, number, only};
 use lines::Row;
-use std::alloc::{AllocError, Global};
+use std::alloc::Global;
 use supply::Supply;
 
 // These take the heap, a supply and words: the supply is the session's own, so a struct of the three would only lend it again.
@@ -16,27 +17,28 @@ fn count<S: Supply>(heap: Global, supply: &S, words: &[&str]) -> Result<String, 
     };
     let phase = number(phase, Usage::Count)?;
     let slots = number(slots, Usage::Count)?;
-    let given = supply.count(phase, slots);
-    Ok(format!(in heap; "count {given}\n")?)
+    figure(heap, "count", u32::from(supply.count(phase, slots)))
 }
 
 // How many given slots any so many slots in a row are sure to hold.
 fn least<S: Supply>(heap: Global, supply: &S, words: &[&str]) -> Result<String, Trouble> {
-    let [slots] = words else {
-        return Err(Trouble::Usage(Usage::Least));
-    };
-    let (given, phase) = supply.least(number(slots, Usage::Least)?);
+    let (given, phase) = supply.least(only(words, Usage::Least)?);
     Ok(format!(in heap; "least {given} phase {phase}\n")?)
 }
 
 // A command that asks a supply. No other is left.
-pub fn ask<S: Supply>(heap: Global, supply: &S, words: &[&str]) -> Result<String, Trouble> {
-    match words {
-        ["count", words @ ..] => count(heap, supply, words),
-        ["least", words @ ..] => least(heap, supply, words),
-        ["survey", words @ ..] => {
+pub fn ask<S: Supply>(
+    heap: Global,
+    supply: &S,
+    name: &str,
+    words: &[&str],
+) -> Result<String, Trouble> {
+    match name {
+        "count" => count(heap, supply, words),
+        "least" => least(heap, supply, words),
+        "survey" => {
             let rows: Vec<Row> = all(heap, words, Usage::Survey)?;
-            Ok(survey(heap, supply, rows.as_slice())?)
+            survey(heap, supply, rows.as_slice())
         }
         _ => Err(Trouble::Usage(Usage::Command)),
     }
@@ -44,7 +46,6 @@ pub fn ask<S: Supply>(heap: Global, supply: &S, words: &[&str]) -> Result<String
 
 // What is answered where a supply was opened. It only prints a figure of the supply, as `ask` does
 // where it has read the words, and neither promises how that is written.
-pub fn opened<S: Supply>(heap: Global, supply: &S) -> Result<String, AllocError> {
-    let phases = supply.phases();
-    format!(in heap; "opened phases {phases}\n")
+pub fn opened<S: Supply>(heap: Global, supply: &S) -> Result<String, Trouble> {
+    figure(heap, "opened phases", supply.phases())
 }

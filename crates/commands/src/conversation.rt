@@ -5,8 +5,8 @@ use std::io::{BufRead, BufReader};
 
 // What a program holds between two lines, and how it obeys.
 pub trait Obey {
-    // What a command answers, by its words.
-    fn obey(&mut self, words: &[&str]) -> Result<String, Trouble>;
+    // What a command answers, by its name and the words behind it.
+    fn obey(&mut self, name: &str, words: &[&str]) -> Result<String, Trouble>;
 }
 
 // Answers each line as it comes, to the end of the input. It only hands the lines on and prints, and promises nothing of it.

@@ -3,6 +3,7 @@
 #![tactic(auto)]
 
 mod answering;
+mod answers;
 mod asking;
 mod conversation;
 mod opening;
@@ -12,9 +13,10 @@ mod trouble;
 mod usage;
 mod words;
 
+pub use answers::{figure, text};
 pub use asking::{ask, opened};
 pub use conversation::{Obey, converse};
 pub use opening::named;
 pub use trouble::Trouble;
 pub use usage::Usage;
-pub use words::{Typed, all, number};
+pub use words::{Typed, all, number, only};

@@ -3,7 +3,12 @@ use std::alloc::{AllocError, Global};
 
 // Whether a text has characters that steer a terminal in place of being seen, as a carriage return.
 fn has_controls(text: &str) -> bool {
-    text.chars().any(char::is_control)
+    for sign in text.chars() {
+        if sign.is_control() {
+            return true;
+        }
+    }
+    false
 }
 
 // A line of input: as it is, or byte by byte in escapes where it is no text or has control characters.

@@ -1,7 +1,9 @@
 // What a set of lines would ask of a supply, without touching the roster.
+use crate::answers::text;
+use crate::trouble::Trouble;
 use lines::{Lines, Row, WatchList};
 use refusal::Refusal;
-use std::alloc::{AllocError, Global};
+use std::alloc::Global;
 use std::fmt;
 use supply::Supply;
 use texts::Survey;
@@ -22,20 +24,18 @@ impl fmt::Display for Untaken {
 
 // The lines of a survey and their full watch list.
 fn taken(rows: &[Row]) -> Result<(Lines, WatchList), Untaken> {
-    rows.iter().enumerate().try_fold(
-        (Lines::none(), WatchList::none()),
-        |(lines, _), (number, row)| lines
-            .add(*row)
-            .map_err(|refusal| Untaken { number, refusal }),
-    )
+    let mut taken = (Lines::none(), WatchList::none());
+    for (number, row) in rows.iter().enumerate() {
+        match taken.0.add(*row) {
+            Ok(more) => taken = more,
+            Err(refusal) => return Err(Untaken { number, refusal }),
+        }
+    }
+    Ok(taken)
 }
 
 // The survey of rows on a supply, or the refusal of the first that can't be taken.
-pub(crate) fn survey<S: Supply>(
-    heap: Global,
-    supply: &S,
-    rows: &[Row],
-) -> Result<String, AllocError> {
+pub(crate) fn survey<S: Supply>(heap: Global, supply: &S, rows: &[Row]) -> Result<String, Trouble> {
     match taken(rows) {
         Ok((lines, watched)) => {
             let survey = Survey {
@@ -43,8 +43,8 @@ pub(crate) fn survey<S: Supply>(
                 lines: &lines,
                 watched: watched.as_slice(),
             };
-            format!(in heap; "{survey}")
+            text(heap, &survey)
         }
-        Err(untaken) => format!(in heap; "{untaken}"),
+        Err(untaken) => text(heap, &untaken),
     }
 }

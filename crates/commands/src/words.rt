@@ -18,6 +18,18 @@ where
     word.parse::<N>().map_err(|_| Trouble::Usage(usage))
 }
 
+// The number that stands alone behind a command.
+pub fn only<N: FromStr>(words: &[&str], usage: Usage) -> Result<N, Trouble>
+where
+    N::Err: Drop,
+    ensures { MatchResult result (λ _. length words.now ≡ 1) (λ trouble. trouble ≡ Trouble.Usage usage) }
+{
+    match words {
+        [word] => number(word, usage),
+        _ => Err(Trouble::Usage(usage)),
+    }
+}
+
 // What a single word can stand for. (A `FromStr` would be no plainer: it would put the console's notation into the crates of lines
 // and jobs.)
 pub trait Typed: Sized {

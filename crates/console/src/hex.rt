@@ -33,8 +33,12 @@ fn byte(pair: &[u8]) -> Option<u8> {
 
 // The bytes that a word spells.
 pub(crate) fn bytes(heap: Global, word: &str, usage: Usage) -> Result<Vec<u8>, Trouble> {
-    word.as_bytes()
-        .chunks(2)
-        .map(|pair| byte(pair).ok_or(Trouble::Usage(usage)))
-        .try_collect(heap)
+    let mut bytes = Vec::new(heap);
+    for pair in word.as_bytes().chunks(2) {
+        match byte(pair) {
+            Some(byte) => bytes.push(byte)?,
+            None => return Err(Trouble::Usage(usage)),
+        }
+    }
+    Ok(bytes)
 }

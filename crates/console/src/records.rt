@@ -2,9 +2,10 @@
 ghost use Rattle.std.specs.Prelude.{length};
 ghost use Rattle.std.specs.Iterator.{at_most};
 
+use commands::Trouble;
 use grammar::Fields;
 use roster::Cite;
-use std::alloc::{AllocError, Global};
+use std::alloc::Global;
 use texts::Certificate;
 
 // One record, as far as the console looks into it. The fields are read once more here: the sheet's reader opens their supply and
@@ -27,17 +28,6 @@ fn fields(record: [u8; 11]) -> Fields {
     }
 }
 
-// The cite that four bytes spell.
-fn cite(bytes: &[u8]) -> Option<Cite> {
-    let [d1, d0, w1, w0] = bytes else {
-        return None;
-    };
-    Some(Cite {
-        deadline: u16::from_be_bytes([*d1, *d0]),
-        weight: u16::from_be_bytes([*w1, *w0]),
-    })
-}
-
 // The record of a cut.
 #[derive(Drop)]
 pub(crate) struct CutRecord<'a> {
@@ -49,11 +39,20 @@ pub(crate) struct CutRecord<'a> {
 
 impl<'a> CutRecord<'a> {
     // The certificate of the cut.
-    pub(crate) fn certificate(&self, heap: Global) -> Result<Certificate, AllocError> {
+    pub(crate) fn certificate(&self, heap: Global) -> Result<Certificate, Trouble> {
+        let mut cites = Vec::new(heap);
+        for bytes in self.cites.chunks_exact(4) {
+            if let [d1, d0, w1, w0] = bytes {
+                cites.push(Cite {
+                    deadline: u16::from_be_bytes([*d1, *d0]),
+                    weight: u16::from_be_bytes([*w1, *w0]),
+                })?;
+            }
+        }
         Ok(Certificate {
             deadline: self.deadline,
             divisor: self.divisor,
-            cites: self.cites.chunks_exact(4).filter_map(cite).collect(heap)?,
+            cites,
         })
     }
 }

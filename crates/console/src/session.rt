@@ -41,6 +41,66 @@ read HEX
 help
 ";
 
+// What stands alone on its line.
+#[derive(Clone, Copy)]
+enum Question {
+    Help,
+    Lines,
+    Rest,
+    Watched,
+    Verdict,
+    Witness,
+    Write,
+}
+
+const QUESTIONS: [(&str, Question); 7] = [
+    ("help", Question::Help),
+    ("lines", Question::Lines),
+    ("rest", Question::Rest),
+    ("watched", Question::Watched),
+    ("verdict", Question::Verdict),
+    ("witness", Question::Witness),
+    ("write", Question::Write),
+];
+
+// What has words behind its name. Those that ask the supply are others' to know.
+#[derive(Clone, Copy)]
+enum Command {
+    Open,
+    Enrol,
+    Strike,
+    Recost,
+    Cut,
+    Counts,
+    Demand,
+    Run,
+    Explain,
+    Read,
+}
+
+const COMMANDS: [(&str, Command); 10] = [
+    ("open", Command::Open),
+    ("enrol", Command::Enrol),
+    ("strike", Command::Strike),
+    ("recost", Command::Recost),
+    ("cut", Command::Cut),
+    ("counts", Command::Counts),
+    ("demand", Command::Demand),
+    ("run", Command::Run),
+    ("explain", Command::Explain),
+    ("read", Command::Read),
+];
+
+// What a name stands for in a table.
+fn named_by<T: Copy>(table: &[(&str, T)], name: &str) -> Option<T> {
+    for (known, meant) in table {
+        if *known == name {
+            return Some(*meant);
+        }
+    }
+    None
+}
+
 // What the console holds between two lines.
 #[derive(Drop)]
 pub(crate) struct Session {
@@ -69,36 +129,52 @@ impl Session {
         self.roster = Roster::open(supply_of(fields)?);
         self.fields = fields;
         self.cuts.clear();
-        Ok(opened(self.heap, self.roster.supply())?)
+        opened(self.heap, self.roster.supply())
+    }
+}
+
+impl Session {
+    // What a question answers.
+    fn answer(&self, question: Question) -> Result<String, Trouble> {
+        match question {
+            Question::Help => Ok(String::from_str(self.heap, HELP)?),
+            Question::Lines => self.lines(),
+            Question::Rest => self.rest(),
+            Question::Watched => self.watched(),
+            Question::Verdict => self.verdict(),
+            Question::Witness => self.witness(),
+            Question::Write => self.write(),
+        }
+    }
+
+    // What a command answers.
+    fn act(&mut self, command: Command, words: &[&str]) -> Result<String, Trouble> {
+        match command {
+            Command::Open => self.open(words),
+            Command::Enrol => self.enrol(words),
+            Command::Strike => self.strike(words),
+            Command::Recost => self.recost(words),
+            Command::Cut => self.cut(words),
+            Command::Counts => self.counts(words),
+            Command::Demand => self.demand(words),
+            Command::Run => self.run(words),
+            Command::Explain => self.explain(words),
+            Command::Read => self.read(words),
+        }
     }
 }
 
 impl Obey for Session {
-    fn obey(&mut self, words: &[&str]) -> Result<String, Trouble> {
-        match words {
-            ["help"] => Ok(String::from_str(self.heap, HELP)?),
-            ["lines"] => Ok(self.lines()?),
-            ["rest"] => Ok(self.rest()?),
-            ["watched"] => Ok(self.watched()?),
-            ["verdict"] => Ok(self.verdict()?),
-            ["witness"] => self.witness(),
-            ["write"] => self.write(),
-            [
-                "help" | "lines" | "rest" | "watched" | "verdict" | "witness" | "write",
-                ..
-            ] => Err(Trouble::Usage(Usage::Alone)),
-            ["open", words @ ..] => self.open(words),
-            ["enrol", words @ ..] => self.enrol(words),
-            ["strike", words @ ..] => self.strike(words),
-            ["recost", words @ ..] => self.recost(words),
-            ["cut", words @ ..] => self.cut(words),
-            ["counts", words @ ..] => self.counts(words),
-            ["demand", words @ ..] => self.demand(words),
-            ["run", "witness"] => self.run_witness(),
-            ["run", words @ ..] => self.run(words),
-            ["explain", words @ ..] => self.explain(words),
-            ["read", words @ ..] => self.read(words),
-            _ => ask(self.heap, self.roster.supply(), words),
+    fn obey(&mut self, name: &str, words: &[&str]) -> Result<String, Trouble> {
+        if let Some(question) = named_by(&QUESTIONS, name) {
+            if !words.is_empty() {
+                return Err(Trouble::Usage(Usage::Alone));
+            }
+            return self.answer(question);
+        }
+        match named_by(&COMMANDS, name) {
+            Some(command) => self.act(command, words),
+            None => ask(self.heap, self.roster.supply(), name, words),
         }
     }
 }

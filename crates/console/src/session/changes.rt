@@ -1,6 +1,6 @@
 // Commands that change the lines of the roster.
 use crate::session::Session;
-use commands::{Trouble, Usage, number};
+use commands::{Trouble, Usage, figure, number, only};
 use lines::Row;
 
 impl Session {
@@ -16,18 +16,15 @@ impl Session {
         };
         let line = self.roster.enrol(row)?;
         self.cuts.clear();
-        Ok(format!(in self.heap; "enrolled line {line}\n")?)
+        figure(self.heap, "enrolled line", u32::from(line))
     }
 
     // Lets a line go.
     pub(crate) fn strike(&mut self, words: &[&str]) -> Result<String, Trouble> {
-        let [line] = words else {
-            return Err(Trouble::Usage(Usage::Strike));
-        };
-        let line = number(line, Usage::Strike)?;
+        let line: u8 = only(words, Usage::Strike)?;
         self.roster.strike(line)?;
         self.cuts.clear();
-        Ok(format!(in self.heap; "struck line {line}\n")?)
+        figure(self.heap, "struck line", u32::from(line))
     }
 
     // Gives a line a new cost.
@@ -35,9 +32,9 @@ impl Session {
         let [line, cost] = words else {
             return Err(Trouble::Usage(Usage::Recost));
         };
-        let line = number(line, Usage::Recost)?;
+        let line: u8 = number(line, Usage::Recost)?;
         let cost = number(cost, Usage::Recost)?;
         self.roster.recost(line, cost)?;
-        Ok(format!(in self.heap; "recosted line {line}\n")?)
+        figure(self.heap, "recosted line", u32::from(line))
     }
 }

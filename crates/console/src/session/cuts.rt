@@ -1,6 +1,6 @@
 // Commands about the deadlines that are watched: cut one, and explain one.
 use crate::session::Session;
-use commands::{Trouble, Usage, all, number};
+use commands::{Trouble, Usage, all, figure, number, only, text};
 use roster::Cite;
 use std::alloc::{AllocError, Global};
 use texts::{Certificate, Explanation};
@@ -15,43 +15,48 @@ fn bytes(heap: Global, cites: &[Cite]) -> Result<Vec<u8>, AllocError> {
     Ok(bytes)
 }
 
+// The certificate that the words of a `cut` name.
+fn certificate(heap: Global, words: &[&str]) -> Result<Certificate, Trouble> {
+    let [deadline, divisor, cites @ ..] = words else {
+        return Err(Trouble::Usage(Usage::Cut));
+    };
+    Ok(Certificate {
+        deadline: number(deadline, Usage::Cut)?,
+        divisor: number(divisor, Usage::Cut)?,
+        cites: all(heap, cites, Usage::Cut)?,
+    })
+}
+
 impl Session {
     // Takes a deadline out of the watch list by a certificate, which is kept for an explanation.
     pub(crate) fn cut(&mut self, words: &[&str]) -> Result<String, Trouble> {
-        let [deadline, divisor, cites @ ..] = words else {
-            return Err(Trouble::Usage(Usage::Cut));
-        };
-        let certificate = Certificate {
-            deadline: number(deadline, Usage::Cut)?,
-            divisor: number(divisor, Usage::Cut)?,
-            cites: all(self.heap, cites, Usage::Cut)?,
-        };
+        let certificate = certificate(self.heap, words)?;
         let deadline = certificate.deadline;
         let cites = bytes(self.heap, certificate.cites.as_slice())?;
         self.roster
             .cut(deadline, certificate.divisor, cites.as_slice())?;
         self.cuts.push(certificate)?;
-        Ok(format!(in self.heap; "cut {deadline}\n")?)
+        figure(self.heap, "cut", u32::from(deadline))
     }
 
     // The certificate by which a deadline was cut, if it was.
-    fn certificate(&self, deadline: u16) -> Option<&Certificate> {
-        self.cuts
-            .iter()
-            .find(|certificate| certificate.deadline == deadline)
+    fn cut_of(&self, deadline: u16) -> Option<&Certificate> {
+        for certificate in self.cuts.as_slice() {
+            if certificate.deadline == deadline {
+                return Some(certificate);
+            }
+        }
+        None
     }
 
     // Why a deadline is or is not watched.
     pub(crate) fn explain(&self, words: &[&str]) -> Result<String, Trouble> {
-        let [at] = words else {
-            return Err(Trouble::Usage(Usage::Explain));
-        };
-        let at = number(at, Usage::Explain)?;
+        let at = only(words, Usage::Explain)?;
         let explanation = Explanation {
             roster: &self.roster,
             at,
-            cut: self.certificate(at),
+            cut: self.cut_of(at),
         };
-        Ok(format!(in self.heap; "{explanation}")?)
+        text(self.heap, &explanation)
     }
 }

@@ -1,6 +1,6 @@
 // Commands that run job lists.
 use crate::session::Session;
-use commands::{Trouble, Usage, all, number};
+use commands::{Trouble, Usage, all, number, text};
 use run::Job;
 use texts::RunText;
 
@@ -8,10 +8,12 @@ use texts::RunText;
 const MOST_SLOTS: usize = 32_000;
 
 impl Session {
-    // Runs the jobs that are named in a phase.
+    // Runs the witness, or the jobs that are named in a phase.
     pub(crate) fn run(&self, words: &[&str]) -> Result<String, Trouble> {
-        let [phase, jobs @ ..] = words else {
-            return Err(Trouble::Usage(Usage::Run));
+        let (phase, jobs) = match words {
+            ["witness"] => return self.run_witness(),
+            [phase, jobs @ ..] => (phase, jobs),
+            [] => return Err(Trouble::Usage(Usage::Run)),
         };
         let phase = number(phase, Usage::Run)?;
         let jobs: Vec<Job> = all(self.heap, jobs, Usage::Run)?;
@@ -22,12 +24,12 @@ impl Session {
     pub(crate) fn run_jobs<'a>(&'a self, phase: u32, jobs: &'a [Job]) -> Result<String, Trouble> {
         let mut slots = vec![in self.heap; 0u16; MOST_SLOTS]?;
         let outcome = self.roster.run(phase, jobs, slots.as_mut_slice())?;
-        let text = RunText {
+        let run = RunText {
             lines: self.roster.lines(),
             jobs,
             slots: slots.as_slice(),
             outcome,
         };
-        Ok(format!(in self.heap; "{text}")?)
+        text(self.heap, &run)
     }
 }
