@@ -6,11 +6,13 @@ mod random;
 mod slow;
 mod trial;
 
-fn report(rt: &HostRuntime) -> anyhow::Result<()> {
-    cases::show(rt)?;
-    random::compare(rt)
-}
+use anyhow::anyhow;
+use supply::Timetable;
 
 fn main(rt: HostRuntime) -> anyhow::Result<()> {
-    report(&rt)
+    let Ok(half) = Timetable::new(2, 2) else {
+        return Err(anyhow!("every second slot is a timetable"));
+    };
+    cases::show(&rt, &half)?;
+    random::compare(&rt, &half)
 }

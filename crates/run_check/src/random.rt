@@ -1,10 +1,9 @@
 // Random lists of jobs, each run on the whole processor, a timetable and a share, against the slow simulation.
-use crate::trial::{Case, Trial, lines_of};
+use crate::trial::{Case, lines_of};
 use anyhow::anyhow;
 use lines::Row;
 use run::{Job, Outcome};
 use std::alloc::{AllocError, Global};
-use std::fmt;
 use supply::{Share, Supply, Timetable, Whole};
 use trial_tools::{Generator, Upper, job, may_release};
 
@@ -21,48 +20,24 @@ struct Ends {
 }
 
 impl Ends {
-    const NONE: Ends = Ends {
-        met: 0,
-        missed: 0,
-        refused: 0,
-        wrong: 0,
-    };
-
-    fn add(&mut self, trial: &Trial, right: bool) {
+    // Runs a case on a supply, and adds how it ended.
+    fn count<S: Supply>(
+        &mut self,
+        heap: Global,
+        case: Case,
+        supply: &S,
+        pattern: &[bool],
+    ) -> Result<(), AllocError> {
+        let trial = case.tried(heap, supply)?;
         match trial.answer {
             Ok(Outcome::Met) => self.met = self.met.saturating_add(1),
             Ok(Outcome::Missed { .. }) => self.missed = self.missed.saturating_add(1),
             Err(_) => self.refused = self.refused.saturating_add(1),
         }
-        if !right {
+        if trial != case.expected(heap, pattern)? {
             self.wrong = self.wrong.saturating_add(1);
         }
-    }
-
-    // Runs a case, and adds how it ended.
-    fn count<S: Supply>(
-        &mut self,
-        heap: Global,
-        case: &Case<S>,
-        pattern: &[bool],
-    ) -> Result<(), AllocError> {
-        let trial = case.tried(heap)?;
-        let expected = case.expected(heap, pattern)?;
-        self.add(&trial, trial == expected);
         Ok(())
-    }
-}
-
-impl fmt::Display for Ends {
-    fn fmt<W: fmt::Write>(&self, f: &mut fmt::Formatter<W>) -> fmt::Result {
-        let met = self.met;
-        let missed = self.missed;
-        let refused = self.refused;
-        let wrong = self.wrong;
-        write!(
-            f,
-            "{met} met, {missed} missed, {refused} refused, {wrong} not as the slow simulation says"
-        )
     }
 }
 
@@ -74,20 +49,14 @@ struct Parts {
 }
 
 impl Parts {
-    fn new() -> anyhow::Result<Parts> {
-        let half = Timetable::new(2, 2).map_err(|_| anyhow!("every second slot is a timetable"))?;
-        let share = Share::new(Whole, 2, 3).map_err(|_| anyhow!("2 in 3 is a share"))?;
-        Ok(Parts { half, share })
-    }
-
-    // Runs a case of the whole processor, and then the same on each part.
-    fn count(&self, heap: Global, ends: &mut Ends, case: &Case<Whole>) -> Result<(), AllocError> {
+    // Runs a case on the whole processor, and then the same on each part.
+    fn count(&self, heap: Global, ends: &mut Ends, case: Case) -> Result<(), AllocError> {
         let k = case.phase;
-        ends.count(heap, case, &[true])?;
+        ends.count(heap, case, &Whole, &[true])?;
         let halves = [k % 2 == 1, k % 2 == 0];
-        ends.count(heap, &case.on(&self.half), &halves)?;
+        ends.count(heap, case, &self.half, &halves)?;
         let thirds = [k % 3 != 2, k % 3 != 1, k % 3 != 0];
-        ends.count(heap, &case.on(&self.share), &thirds)
+        ends.count(heap, case, &self.share, &thirds)
     }
 }
 
@@ -143,21 +112,36 @@ fn compare_lists(
     let case = Case {
         rows: rows.as_slice(),
         jobs: jobs.as_slice(),
-        supply: &Whole,
         phase: k,
         slots: usize::from(numbers.below(20)).wrapping_add(48),
     };
-    parts.count(heap, ends, &case)
+    parts.count(heap, ends, case)
 }
 
 // Runs random lists and prints how they ended.
-pub(crate) fn compare(rt: &HostRuntime) -> anyhow::Result<()> {
-    let parts = Parts::new()?;
+pub(crate) fn compare(rt: &HostRuntime, half: &Timetable) -> anyhow::Result<()> {
+    let Ok(share) = Share::new(Whole, 2, 3) else {
+        return Err(anyhow!("2 in 3 is a share"));
+    };
+    let parts = Parts { half: *half, share };
     let mut numbers = Numbers::new(2_026);
-    let mut ends = Ends::NONE;
+    let mut ends = Ends {
+        met: 0,
+        missed: 0,
+        refused: 0,
+        wrong: 0,
+    };
     for k in 0..400u32 {
         compare_lists(rt.alloc(), &mut ends, &mut numbers, &parts, k)?;
     }
-    println!(rt; "random lists: {ends}")?;
+    let Ends {
+        met,
+        missed,
+        refused,
+        wrong,
+    } = ends;
+    println!(rt;
+        "random lists: {met} met, {missed} missed, {refused} refused, {wrong} not as the slow simulation says"
+    )?;
     Ok(())
 }

@@ -1,5 +1,4 @@
-// One run, and whether it is what the slow simulation says.
-use crate::slow::List;
+// One run, and how it ends.
 use lines::{Lines, Row};
 use refusal::Refusal;
 use run::{Job, Outcome, run};
@@ -8,14 +7,13 @@ use std::fmt;
 use supply::Supply;
 
 // What every slot holds before a run.
-const BEFORE: u16 = 7;
+pub(crate) const BEFORE: u16 = 7;
 
-// What is run: jobs of the lines of some rows, in a phase of a supply, into so many slots.
-#[derive(Drop)]
-pub(crate) struct Case<'a, S: Supply> {
+// What is run on a supply: jobs of the lines of some rows, in a phase, into so many slots.
+#[derive(Clone, Copy)]
+pub(crate) struct Case<'a> {
     pub(crate) rows: &'a [Row],
     pub(crate) jobs: &'a [Job],
-    pub(crate) supply: &'a S,
     pub(crate) phase: u32,
     pub(crate) slots: usize,
 }
@@ -49,50 +47,12 @@ pub(crate) fn lines_of(rows: &[Row]) -> Lines {
     lines
 }
 
-impl<'a, S: Supply> Case<'a, S> {
-    // The same on another supply.
-    pub(crate) fn on<T: Supply>(&self, supply: &'a T) -> Case<'a, T> {
-        Case {
-            rows: self.rows,
-            jobs: self.jobs,
-            supply,
-            phase: self.phase,
-            slots: self.slots,
-        }
-    }
-
+impl Case<'_> {
     // Runs it.
-    pub(crate) fn tried(&self, heap: Global) -> Result<Trial, AllocError> {
+    pub(crate) fn tried<S: Supply>(self, heap: Global, supply: &S) -> Result<Trial, AllocError> {
         let mut slots = vec![in heap; BEFORE; self.slots]?;
         let lines = lines_of(self.rows);
-        let answer = run(
-            self.supply,
-            self.phase,
-            &lines,
-            self.jobs,
-            slots.as_mut_slice(),
-        );
+        let answer = run(supply, self.phase, &lines, self.jobs, slots.as_mut_slice());
         Ok(Trial { answer, slots })
-    }
-
-    // What the run should be, by the slow simulation, where a pattern says which slots are given.
-    pub(crate) fn expected(&self, heap: Global, pattern: &[bool]) -> Result<Trial, AllocError> {
-        let list = List {
-            rows: self.rows,
-            jobs: self.jobs,
-        };
-        match list.allowed(self.slots) {
-            Ok(()) => {
-                let (outcome, slots) = list.simulate(heap, pattern, self.slots)?;
-                Ok(Trial {
-                    answer: Ok(outcome),
-                    slots,
-                })
-            }
-            Err(refusal) => Ok(Trial {
-                answer: Err(refusal),
-                slots: vec![in heap; BEFORE; self.slots]?,
-            }),
-        }
     }
 }
