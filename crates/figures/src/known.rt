@@ -1,7 +1,7 @@
 // Sets of lines whose figures are known, worked out by hand.
 use crate::taken::taken;
-use lines::{Lines, Row};
-use trial_tools::{Tally, Watched, rows};
+use lines::{Line, Row};
+use trial_tools::{Tally, Watched, row, rows};
 
 // A set of lines and its figures.
 struct Case {
@@ -58,20 +58,35 @@ static CASES: [Case; 7] = [
     },
 ];
 
-// Lines, an instant, and the count of each line at it. (Two lists, since the lines are taken as one.)
-static COUNTED: &[Row; 3] = rows![(7, 5, 1), (11, 7, 1), (13, 10, 1)];
+// A line, and its count at an instant.
+struct Counted {
+    row: Row,
+    count: u16,
+}
 
 const COUNTED_AT: u16 = 40;
 
-static COUNTS: [u16; 3] = [6, 4, 3];
+static COUNTED: [Counted; 3] = [
+    Counted {
+        row: row!(7, 5, 1),
+        count: 6,
+    },
+    Counted {
+        row: row!(11, 7, 1),
+        count: 4,
+    },
+    Counted {
+        row: row!(13, 10, 1),
+        count: 3,
+    },
+];
 
-// The groups of known figures.
+// The groups of figures of sets.
 #[derive(Drop)]
 struct Known {
     hyperperiods: Tally,
     rests: Tally,
     lists: Tally,
-    counts: Tally,
 }
 
 impl Known {
@@ -87,16 +102,18 @@ impl Known {
         self.lists.note(case.watched.are(&list));
         self.lists.note(case.watched.are(&lines.full_list()));
     }
+}
 
-    // The counts of the lines, by number. Where there are not as many lines as counts, that is a difference.
-    fn compare_counts(&mut self, lines: &Lines) {
-        if lines.len() != COUNTS.len() {
-            self.counts.note(false);
-        }
-        for (line, count) in lines.iter().zip(COUNTS.iter()) {
-            self.counts.note(line.count(COUNTED_AT) == *count);
+// Compares known counts. Where a line is refused, that is a difference.
+fn counts() -> Tally {
+    let mut tally = Tally::of("known counts");
+    for counted in &COUNTED {
+        match Line::new(counted.row) {
+            Ok(line) => tally.note(line.count(COUNTED_AT) == counted.count),
+            Err(_) => tally.note(false),
         }
     }
+    tally
 }
 
 // Compares every known figure.
@@ -105,14 +122,9 @@ pub(crate) fn compared() -> [Tally; 4] {
         hyperperiods: Tally::of("known hyperperiods"),
         rests: Tally::of("known rest points"),
         lists: Tally::of("known watch lists"),
-        counts: Tally::of("known counts"),
     };
     for case in &CASES {
         known.compare(case);
     }
-    match taken(COUNTED) {
-        Some((lines, _)) => known.compare_counts(&lines),
-        None => known.counts.note(false),
-    }
-    [known.hyperperiods, known.rests, known.lists, known.counts]
+    [known.hyperperiods, known.rests, known.lists, counts()]
 }

@@ -1,27 +1,32 @@
-// Compares the library with figures that are known, and with counts job by job of random sets of lines.
+// Compares the library with figures that are known, and with slow counts of random lines and of many supplies, which are written
+// from the definitions alone. Prints what was compared, the figures of small supplies, and what is refused of bad input.
 #![tactic(auto)]
 
 mod expected;
-mod jobs;
 mod known;
 mod refused;
 mod sets;
+mod shown;
+mod slots;
+mod supplies;
 mod taken;
-mod timeline;
-mod whole;
 mod worded;
 
 use trial_tools::print;
 
-// Prints for each group how many figures were compared and how many differ.
-fn compare(rt: &HostRuntime) -> anyhow::Result<()> {
-    print(rt, &[whole::compared()])?;
-    print(rt, &known::compared())?;
-    print(rt, &[refused::compared(), worded::compared(rt.alloc())?])?;
-    print(rt, &sets::compared(rt.alloc())?.tallies())?;
-    Ok(())
-}
-
 fn main(rt: HostRuntime) -> anyhow::Result<()> {
-    compare(&rt)
+    shown::show(&rt)?;
+    print(&rt, &known::compared())?;
+    print(
+        &rt,
+        &[
+            supplies::whole(),
+            supplies::timetables(),
+            supplies::piles(),
+            refused::compared(),
+            worded::numbers(),
+            worded::texts(rt.alloc())?,
+        ],
+    )?;
+    sets::compare(&rt)
 }

@@ -99,28 +99,18 @@ static UNTAKEN: [Untaken; 7] = [
     },
 ];
 
-// Compares how the unlawful figures are refused, on their own and as a first line.
-fn compare_unlawful(tally: &mut Tally) {
+// Compares how the unlawful figures are refused, on their own and as a first line, and how lines are refused beside others.
+pub(crate) fn compared() -> Tally {
+    let mut tally = Tally::of("known refusals");
     for case in &UNLAWFUL {
         tally.note(Line::new(case.row).err() == case.refused);
         tally.note(Lines::none().add(case.row).err() == case.refused);
     }
-}
-
-// Compares how lines are refused beside others.
-fn compare_untaken(tally: &mut Tally) {
     for case in &UNTAKEN {
         match taken(case.before) {
             Some((lines, _)) => tally.note(lines.add(case.row).err() == case.refused),
             None => tally.note(false),
         }
     }
-}
-
-// Compares every refusal.
-pub(crate) fn compared() -> Tally {
-    let mut tally = Tally::of("known refusals");
-    compare_unlawful(&mut tally);
-    compare_untaken(&mut tally);
     tally
 }

@@ -1,9 +1,8 @@
 // Random sets of small lines: what the library answers, against the counts by the definitions.
-use crate::expected::{Answers, Expected, expected};
-use crate::jobs::{Jobs, demand};
+use crate::expected::{Answers, Instant, expected};
 use lines::{Lines, Row, WatchList};
 use std::alloc::{AllocError, Global};
-use trial_tools::{Generator, Random, Tally};
+use trial_tools::{Generator, Random, Tally, print};
 
 // How many sets there are.
 const SETS: u16 = 3000;
@@ -23,15 +22,9 @@ const EACH: u16 = 64;
 // At so many random instants besides.
 const SOME: u16 = 4;
 
-// The figures of a lawful line.
-fn row(random: &mut Random) -> Row {
-    let period = random.up_to(LONGEST);
-    random.row(period, DEAREST)
-}
-
 // The groups of comparisons.
 #[derive(Drop)]
-pub(crate) struct Sets {
+struct Sets {
     answers: Tally,
     hyperperiods: Tally,
     rests: Tally,
@@ -41,100 +34,97 @@ pub(crate) struct Sets {
 }
 
 impl Sets {
-    // Nothing is compared yet.
-    fn none() -> Sets {
-        Sets {
-            answers: Tally::of("random sets taken or refused"),
-            hyperperiods: Tally::of("random hyperperiods"),
-            rests: Tally::of("random rest points"),
-            lists: Tally::of("random watch lists"),
-            counts: Tally::of("random counts"),
-            demands: Tally::of("random demands"),
-        }
-    }
-
-    // The figures of a set that is taken.
-    fn compare_answers(&mut self, lines: &Lines, list: &WatchList, answers: &Answers) {
+    // A set that is taken.
+    fn compare_taken(&mut self, lines: &Lines, list: &WatchList, answers: &Answers) {
         let watched = answers.watched.as_slice();
         self.hyperperiods
-            .note(usize::from(lines.hyperperiod()) == answers.hyperperiod);
-        self.rests
-            .note(usize::from(lines.first_rest()) == answers.rest);
+            .note(lines.hyperperiod() == answers.hyperperiod);
+        self.rests.note(lines.first_rest() == answers.rest);
         self.lists.note(list.as_slice() == watched);
         self.lists.note(lines.full_list().as_slice() == watched);
     }
 
     // The count of each line at an instant, and what they ask for together. Where lines are missing, that is a difference.
-    fn compare_counts(&mut self, lines: &Lines, jobs: &[Jobs], t: u16) {
-        let instant = usize::from(t);
-        if lines.len() != jobs.len() {
+    fn compare_counts(&mut self, lines: &Lines, rows: &[Row], t: u16) {
+        if lines.len() != rows.len() {
             self.counts.note(false);
         }
-        for (line, of_line) in lines.iter().zip(jobs.iter()) {
-            self.counts
-                .note(usize::from(line.count(t)) == of_line.count(instant));
+        let mut demand = 0u32;
+        for (number, row) in rows.iter().enumerate() {
+            let instant = Instant::of(row, t);
+            demand = demand.saturating_add(instant.work);
+            match lines.get(number) {
+                Some(line) => self.counts.note(line.count(t) == instant.count),
+                None => self.counts.note(false),
+            }
         }
-        self.demands.note(lines.demand(t) == demand(jobs, instant));
+        self.demands.note(lines.demand(t) == demand);
     }
 
     // Counts at many instants.
-    fn compare_instants(&mut self, lines: &Lines, jobs: &[Jobs], random: &mut Random) {
-        let some = (0..SOME).map(|_| random.up_to(u16::MAX));
-        for t in (0..EACH).chain(some) {
-            self.compare_counts(lines, jobs, t);
+    fn compare_instants(&mut self, lines: &Lines, rows: &[Row], random: &mut Random) {
+        for t in 0..EACH {
+            self.compare_counts(lines, rows, t);
         }
-    }
-
-    // A set that is taken.
-    fn compare_taken(&mut self, lines: &Lines, list: &WatchList, expected: &Expected) {
-        self.answers.note(expected.is_ok());
-        if let Ok(answers) = expected {
-            self.compare_answers(lines, list, answers);
+        for _ in 0..SOME {
+            self.compare_counts(lines, rows, random.up_to(u16::MAX));
         }
     }
 
     // One set, whose lines are added one by one until one is refused.
     fn compare_set(&mut self, heap: Global, random: &mut Random) -> Result<(), AllocError> {
         let mut lines = Lines::none();
-        let mut jobs = Vec::new(heap);
+        let mut rows = Vec::new(heap);
         for _ in 0..random.up_to(LINES) {
-            let row = row(random);
-            jobs.push(Jobs::of(heap, row, usize::from(u16::MAX))?)?;
-            let expected = expected(heap, jobs.as_slice())?;
-            match lines.add(row) {
-                Ok((more, list)) => {
-                    self.compare_taken(&more, &list, &expected);
-                    self.compare_instants(&more, jobs.as_slice(), random);
+            let period = random.up_to(LONGEST);
+            let row = random.row(period, DEAREST);
+            rows.push(row)?;
+            let expected = expected(heap, rows.as_slice())?;
+            match (lines.add(row), expected) {
+                (Ok((more, list)), Ok(answers)) => {
+                    self.answers.note(true);
+                    self.compare_taken(&more, &list, &answers);
+                    self.compare_instants(&more, rows.as_slice(), random);
                     lines = more;
                 }
-                Err(refusal) => {
-                    self.answers.note(expected.err() == Some(refusal.reason));
+                (Err(refusal), Err(reason)) => {
+                    self.answers.note(refusal.reason == reason);
+                    break;
+                }
+                _ => {
+                    self.answers.note(false);
                     break;
                 }
             }
         }
         Ok(())
     }
-
-    // The groups one after another.
-    pub(crate) fn tallies(&self) -> [Tally; 6] {
-        [
-            self.answers,
-            self.hyperperiods,
-            self.rests,
-            self.lists,
-            self.counts,
-            self.demands,
-        ]
-    }
 }
 
-// Compares every set.
-pub(crate) fn compared(heap: Global) -> Result<Sets, AllocError> {
+// Compares every set, and prints the groups.
+pub(crate) fn compare(rt: &HostRuntime) -> anyhow::Result<()> {
     let mut random = Random::new(1);
-    let mut sets = Sets::none();
+    let mut sets = Sets {
+        answers: Tally::of("random sets taken or refused"),
+        hyperperiods: Tally::of("random hyperperiods"),
+        rests: Tally::of("random rest points"),
+        lists: Tally::of("random watch lists"),
+        counts: Tally::of("random counts"),
+        demands: Tally::of("random demands"),
+    };
     for _ in 0..SETS {
-        sets.compare_set(heap, &mut random)?;
+        sets.compare_set(rt.alloc(), &mut random)?;
     }
-    Ok(sets)
+    print(
+        rt,
+        &[
+            sets.answers,
+            sets.hyperperiods,
+            sets.rests,
+            sets.lists,
+            sets.counts,
+            sets.demands,
+        ],
+    )?;
+    Ok(())
 }

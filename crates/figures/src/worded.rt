@@ -1,7 +1,32 @@
-// Refusals, and the part of the text of each that scripts may rely on.
+// The number of each reason, as the table of refusals has it, and refusals with the part of the text of each that scripts may rely on.
 use refusal::{Layer, Reason, Refusal};
 use std::alloc::{AllocError, Global};
 use trial_tools::Tally;
+
+static NUMBERS: [(Reason, u8); 22] = [
+    (Reason::LinesFull, 1),
+    (Reason::PeriodOutOfRange, 2),
+    (Reason::DeadlineOutOfRange, 3),
+    (Reason::CostOutOfRange, 4),
+    (Reason::HyperperiodTooLong, 5),
+    (Reason::WatchListTooLong, 6),
+    (Reason::NoSuchLine, 7),
+    (Reason::NotWatched, 8),
+    (Reason::CertificateOutOfRange, 9),
+    (Reason::CountNotCovered, 10),
+    (Reason::SupplyNotCovered, 11),
+    (Reason::NothingOverloaded, 12),
+    (Reason::ListTooShort, 13),
+    (Reason::JobOutOfRange, 14),
+    (Reason::JobTooSoon, 15),
+    (Reason::TooLarge, 16),
+    (Reason::TimetableUnlawful, 17),
+    (Reason::ShareUnlawful, 18),
+    (Reason::SheetCutShort, 19),
+    (Reason::MarkMisplaced, 20),
+    (Reason::ClosingCountWrong, 21),
+    (Reason::BytesAfterEnd, 22),
+];
 
 // A refusal and how its text begins.
 struct Worded {
@@ -44,8 +69,17 @@ static WORDED: [Worded; 4] = [
     },
 ];
 
+// Compares the numbers of the reasons.
+pub(crate) fn numbers() -> Tally {
+    let mut tally = Tally::of("known numbers of reasons");
+    for (reason, number) in NUMBERS {
+        tally.note(reason.number() == number);
+    }
+    tally
+}
+
 // Compares how the texts begin.
-pub(crate) fn compared(heap: Global) -> Result<Tally, AllocError> {
+pub(crate) fn texts(heap: Global) -> Result<Tally, AllocError> {
     let mut tally = Tally::of("known texts of refusals");
     for case in &WORDED {
         let text = case.refusal.to_string(heap)?;

@@ -8,8 +8,6 @@ mod plan;
 mod random;
 mod tables;
 mod tally;
-#[cfg(test)]
-mod tests;
 mod turn;
 mod untaken;
 mod watched;
