@@ -1,5 +1,5 @@
 // What the words of a command stand for.
-ghost use Rattle.std.specs.Prelude.{◌≡◌, IfOk, MatchResult, Ok, length, vec_len};
+ghost use Rattle.std.specs.Prelude.{◌≡◌, ◌∷◌, [], IfOk, MatchResult, Ok, length, vec_len};
 
 use crate::trouble::Trouble;
 use crate::usage::Usage;
@@ -22,7 +22,7 @@ where
 pub fn only<N: FromStr>(words: &[&str], usage: Usage) -> Result<N, Trouble>
 where
     N::Err: Drop,
-    ensures { MatchResult result (λ _. length words.now ≡ 1) (λ trouble. trouble ≡ Trouble.Usage usage) }
+    ensures { MatchResult result (λ n. (word : _) × (words.now ≡ word ∷ []) × N.from_str_gives word.now (Ok n)) (λ trouble. trouble ≡ Trouble.Usage usage) }
 {
     match words {
         [word] => number(word, usage),

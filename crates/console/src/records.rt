@@ -3,10 +3,10 @@ ghost use Rattle.std.specs.Prelude.{length};
 ghost use Rattle.std.specs.Iterator.{at_most};
 
 use commands::Trouble;
+use explanations::Certificate;
 use grammar::Fields;
 use roster::Cite;
 use std::alloc::Global;
-use texts::Certificate;
 
 // One record, as far as the console looks into it. The fields are read once more here: the sheet's reader opens their supply and
 // keeps none of them.

@@ -7,12 +7,12 @@ mod sheets;
 mod witnesses;
 
 use commands::{Obey, Trouble, Usage, ask, named, opened};
+use explanations::Certificate;
 use grammar::Fields;
 use roster::Roster;
 use sheet::supply_of;
 use std::alloc::Global;
 use supply::{Bottom, Named, Whole};
-use texts::Certificate;
 
 // The commands, one to a line.
 const HELP: &str = "open whole

@@ -1,9 +1,9 @@
 // Commands about the deadlines that are watched: cut one, and explain one.
 use crate::session::Session;
 use commands::{Trouble, Usage, all, figure, number, only, text};
+use explanations::{Certificate, Explanation};
 use roster::Cite;
 use std::alloc::{AllocError, Global};
-use texts::{Certificate, Explanation};
 
 // The bytes of cites: for each its deadline and its weight, two bytes each, the high byte first.
 fn bytes(heap: Global, cites: &[Cite]) -> Result<Vec<u8>, AllocError> {
