@@ -1,5 +1,5 @@
 // The part of the gateway that refused.
-#[derive(Clone, Copy, PartialEq, Eq, Debug)]
+#[derive(Clone, Copy, PartialEq, Eq)]
 pub enum Layer {
     Supply,
     Roster,

@@ -12,7 +12,7 @@ pub use reason::Reason;
 
 // A refusal. The place is 0 unless the reason names one: a line, a cite, a job, or the length needed. (No Option: C code and
 // whoever reads a refusal has its place as a number, 0 where there is none.)
-#[derive(Clone, Copy, PartialEq, Eq, Debug)]
+#[derive(Clone, Copy, PartialEq, Eq)]
 pub struct Refusal {
     pub reason: Reason,
     pub layer: Layer,

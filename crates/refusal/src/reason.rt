@@ -2,7 +2,7 @@ ghost use Rattle.refusal.specs.Numbers.{number_of};
 ghost use Rattle.std.specs.Prelude.{◌≡◌};
 
 // The reasons, each with its number in the table of refusals.
-#[derive(Clone, Copy, PartialEq, Eq, PartialOrd, Ord, Debug)]
+#[derive(Clone, Copy, PartialEq, Eq, PartialOrd, Ord)]
 pub enum Reason {
     LinesFull = 1,
     PeriodOutOfRange = 2,

@@ -5,7 +5,7 @@ use std::fmt;
 
 // How a run ends: every deadline met, or the job at a place missed its deadline at an instant.
 // (No `Result` of its own, since a miss is an answer of the run and no failure: the run's `Err` is a refusal.)
-#[derive(Clone, Copy, PartialEq, Eq, Debug)]
+#[derive(Clone, Copy, PartialEq, Eq)]
 pub enum Outcome {
     Met,
     Missed { job: u16, at: u16 },

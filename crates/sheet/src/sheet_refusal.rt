@@ -5,7 +5,7 @@ use refusal::Refusal;
 
 // Why a sheet is turned down, and where: the record, from 1, and the byte at which it begins, from 0. (Where it is about no
 // record both are 0, as the report and C code have them, and no None.)
-#[derive(Clone, Copy, PartialEq, Eq, Debug)]
+#[derive(Clone, Copy, PartialEq, Eq)]
 pub struct SheetRefusal {
     pub refusal: Refusal,
     pub record: u32,

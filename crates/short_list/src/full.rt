@@ -1,3 +1,3 @@
 // There was no room for what was to be added.
-#[derive(Clone, Copy, PartialEq, Eq, Debug)]
+#[derive(Clone, Copy)]
 pub struct Full;

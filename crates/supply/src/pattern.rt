@@ -3,7 +3,7 @@ ghost use Rattle.supply.specs.Row.{from};
 ghost use Rattle.supply.specs.Share.{LawfulPattern, pattern, sure};
 
 // The pattern of a share: of each `of` slots, the first `given` are taken.
-#[derive(Clone, Copy, PartialEq, Eq, Debug)]
+#[derive(Clone, Copy)]
 pub struct Pattern {
     given: u8,
     of: u8,
