@@ -1,1 +1,2 @@
 pub mod Removing
+pub mod Standing
