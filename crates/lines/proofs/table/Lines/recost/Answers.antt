@@ -6,7 +6,11 @@ use Rattle.lines.specs.Of.{rows_of}
 use Rattle.lines.specs.Rest.{hyperperiod, full_list}
 use Rattle.lines.specs.declared.row.Row.{Row}
 use Rattle.std.proofs.Common.{◌≡◌, ◌<◌, ◌≤◌, length, get_or, ap, sym, subst, rules, arith}
+use Rattle.std.proofs.lemmas.Grind.{common_steps}
 use Rattle.std.proofs.lemmas.List.{length-set}
+
+pub returns-in_err-line-clause-answer : goal.returns-in_err-line-clause-answer
+returns-in_err-line-clause-answer c = grind (arith, common_steps)
 
 pub invariant_of-self : goal.invariant_of-self
 invariant_of-self c =
