@@ -8,6 +8,7 @@ use Rattle.run.proofs.checked.Checked.admit.Goals as goal
 use Rattle.run.specs.Holding.{Admits}
 use Rattle.run.specs.Timed.{at, line_at, timed, timed_list}
 use Rattle.run.specs.declared.ready.Ready.{Ready}
+use Rattle.std.proofs.lemmas.Grind.{common_steps}
 use Rattle.std.proofs.lemmas.List.{length-map, length-take, length-drop}
 
 pub returns-then-job-at-clause-place : goal.returns-then-job-at-clause-place
@@ -55,3 +56,9 @@ returns-clause-table c =
     let all = timed_list (rows_of c.args.self.now.lines.now) jobs in
     let end : c.args.from + c.loop-ahead.ahead ≡ length jobs = omega (arith, c.loop-ahead-test.false, c.loop-ahead.invariant.0.within, length-map jobs (timed (rows_of c.args.self.now.lines.now)), length-take (length jobs - c.args.from) (drop c.args.from jobs), length-drop c.args.from jobs) in
     subst (λ m. Admits all (line_at jobs) c.args.at c.args.from c.args.table.now.jobs m c.loop-ahead.table.jobs) end c.loop-ahead.invariant.1
+
+pub offset_bounds-self-from : goal.offset_bounds-self-from
+offset_bounds-self-from c = grind (arith, common_steps)
+
+pub returns-clause-place : goal.returns-clause-place
+returns-clause-place c = grind (arith, common_steps)
