@@ -3,7 +3,8 @@ use Rattle.roster.proofs.Going.{calls_more, reached_more}
 use Rattle.roster.proofs.history.after.Goals as goal
 use Rattle.roster.specs.Calling.{call_of}
 use Rattle.roster.specs.Working.{rows_in, watched_in}
-use Rattle.std.proofs.Common.{[], map, take, sym, refl, subst}
+use Rattle.std.proofs.Common.{[], map, take, sym, refl, subst, arith}
+use Rattle.std.proofs.lemmas.Grind.{common_steps}
 
 pub loop-call-init : goal.loop-call-init
 loop-call-init g c =
@@ -19,3 +20,6 @@ loop-call-preserved g c =
     let after = c.make.new.self in
     let more = reached_more g.S.Supply.meaning s c.loop-call.roster after (map call_of (take i calls)) _ c.make.result _ c.make.ensures c.loop-call.invariant in
     (more.0, subst (λ cs. Reached (g.S.Supply.meaning s) cs (rows_in after) (watched_in after)) (calls_more call_of calls i _ c.loop-call-test.true) more.1)
+
+pub returns-clause-reached : goal.returns-clause-reached
+returns-clause-reached g c = grind (arith, common_steps)

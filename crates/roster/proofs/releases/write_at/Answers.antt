@@ -9,11 +9,15 @@ use Rattle.roster.proofs.Writing.{written_none, written_more}
 use Rattle.roster.proofs.releases.write_at.Goals as goal
 use Rattle.roster.proofs.releases.write_at.Goals.{in-Some-released_job, in_default}
 use Rattle.roster.specs.Lent.{written}
+use Rattle.std.proofs.lemmas.Grind.{common_steps}
 use Rattle.std.proofs.lemmas.List.{append-nil, length_push}
 
 pub loop-number-init : goal.loop-number-init
 unfolding released_at
 loop-number-init c = (omega (arith, c.iter-line-items.ensures.few), refl, sym (add-zero c.args.start), written_none c.args.start c.args.list.now)
+
+pub offset_bounds-list-place : goal.offset_bounds-list-place
+offset_bounds-list-place c = grind (arith, common_steps)
 
 pub bounds-list-place : goal.bounds-list-place
 bounds-list-place c =
@@ -27,6 +31,9 @@ bounds-list-place c =
     let here : get_or rows n no_row ≡ c.in-Some.line.row = rw c.loop-number.invariant.1 next.1 in
     let more : released_at 0 (take (n + 1) rows) t r ≡ before ++ (job ∷ []) = released_more t r rows n (omega (arith, next.0, c.loop-number.invariant.1)) ∙ ap (λ row. before ++ released_at n (row ∷ []) t r) here ∙ ap (λ jobs. before ++ jobs) (sym c.in-Some-released_job.ensures) in
     omega (arith, ap length more, length_push before job, released_fewer t r rows (n + 1), c.loop-number.invariant.2, c.requires, c.loop-number.auto.list)
+
+pub overflow_add-place : goal.overflow_add-place
+overflow_add-place c = grind (arith, common_steps)
 
 pub loop-number-preserved : goal.loop-number-preserved
 loop-number-preserved c =
