@@ -12,7 +12,7 @@ use Rattle.std.proofs.lemmas.Result.{err_from_is_err_and}
 pub returns-in_default : goal.returns-in_default
 returns-in_default c count =
     let xs = c.args.fields.now in
-    let few : length xs < 5 = omega (arith, ltb-true, ltb-false) in
+    let few : length xs < 5 = c.in_default.len_below in
     subst (λ why. Faulty c.args.roster.now count (67 ∷ 85 ∷ xs) why) (sym c.by_sheet.ensures) (cut_short (short_certificate xs (λ i. (c.type_inv.fields i).fits) (omega arith)))
 
 pub returns-then-cites-length : goal.returns-then-cites-length

@@ -3,6 +3,7 @@ use Rattle.grammar.proofs.Decoding.{Unlike, misplaced_later}
 use Rattle.grammar.specs.Reading.{cut_short, misplaced}
 use Rattle.sheet.proofs.records.step.Goals as goal
 use Rattle.sheet.specs.Stepping.{Faulty}
+use Rattle.std.proofs.lemmas.Grind.{common_steps}
 
 pub returns-in_default : goal.returns-in_default
 returns-in_default c =
@@ -18,3 +19,12 @@ returns-in-len2-up c =
     let certificate : Unlike 67 85 rest = λ s u. search rules in
     let closing : Unlike 69 78 rest = λ s u. search rules in
     subst (λ why. Faulty c.args.roster.now c.args.before rest why) (sym c.by_sheet-in-len2-up.ensures) (misplaced (misplaced_later rest long line certificate closing))
+
+pub returns-in_err-cut-in-67 : goal.returns-in_err-cut-in-67
+returns-in_err-cut-in-67 c = grind (arith, common_steps)
+
+pub returns-in_ok-cut-in-67 : goal.returns-in_ok-cut-in-67
+returns-in_ok-cut-in-67 c = grind (arith, common_steps)
+
+pub returns-in_err-closed-in-69 : goal.returns-in_err-closed-in-69
+returns-in_err-closed-in-69 c = grind (arith, common_steps)
