@@ -1,5 +1,7 @@
 // Whether two answers are the same.
+use crate::draft::Draft;
 use crate::plain::Reading;
+use grammar::Fields;
 use lines::Lines;
 use roster::Roster;
 use supply::{Named, Supply};
@@ -9,14 +11,19 @@ static SLOTS: [u16; 9] = [0, 1, 2, 5, 13, 40, 61, 997, u16::MAX];
 
 // Whether two supplies have as many phases, and are sure to give as much.
 pub(crate) fn same_supply(one: &Named, other: &Named) -> bool {
-    SLOTS.iter().all(|n| one.least(*n) == other.least(*n)) && one.phases() == other.phases()
+    for n in &SLOTS {
+        if one.least(*n) != other.least(*n) {
+            return false;
+        }
+    }
+    one.phases() == other.phases()
 }
 
-// Whether two sets of lines are the same, line by line. (Two programs test this in a line each, which a call would not
-// shorten.)
+// Whether two sets of lines are the same, line by line: they are if they are spelled so.
 pub(crate) fn same_lines(one: &Lines, other: &Lines) -> bool {
-    let rows = other.iter().map(|line| line.row());
-    one.iter().map(|line| line.row()).eq(rows)
+    let this = Draft::of(Fields::WHOLE, one);
+    let that = Draft::of(Fields::WHOLE, other);
+    this.bytes.as_slice() == that.bytes.as_slice()
 }
 
 // Whether two rosters have the same supply, lines, watch list, first rest point and verdict.

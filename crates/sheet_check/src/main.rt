@@ -1,5 +1,5 @@
-// Compares what is read of sheets, reported on them and written, with a plain reader, which cuts a sheet into its records first
-// and judges them then.
+// Compares what is read of sheets, reported on them and written, with a plain reader, which cuts off one record after another by its
+// mark and judges it.
 #![tactic(auto)]
 
 mod alike;
@@ -8,10 +8,8 @@ mod comparison;
 mod draft;
 mod edges;
 mod known;
-mod lent;
 mod named;
 mod outputs;
-mod pieces;
 mod plain;
 mod random;
 mod sheets;
@@ -19,29 +17,42 @@ mod supplies;
 mod told;
 
 use crate::comparison::Comparison;
-use std::alloc::AllocError;
 use trial_tools::print;
 
-// Compares every group.
-fn compare(comparison: &mut Comparison) -> Result<(), AllocError> {
-    named::compare(comparison)?;
-    known::compare(comparison)?;
-    edges::compare_lengths(comparison)?;
-    edges::compare_cites(comparison)?;
-    base::compare_cut_off(comparison)?;
-    base::compare_changed(comparison)?;
-    sheets::compare(comparison)?;
-    comparison.finish()
-}
-
-// Prints for each group how many answers were compared and how many differ.
-fn report(rt: &HostRuntime) -> anyhow::Result<()> {
-    let mut comparison = Comparison::new(rt.alloc());
-    compare(&mut comparison)?;
-    print(rt, comparison.done.as_slice())?;
-    Ok(())
-}
-
+// Compares every group, and prints for each how many answers were compared and how many differ.
 fn main(rt: HostRuntime) -> anyhow::Result<()> {
-    report(&rt)
+    let mut all = Comparison::new(rt.alloc());
+    let [named, checked] = named::compare();
+    let known = known::compare(&mut all);
+    let lengths = edges::compare_lengths(&mut all);
+    let cites = edges::compare_cites(&mut all);
+    let cut_off = base::compare_cut_off(&mut all);
+    let changed = base::compare_changed(&mut all);
+    let [good, damaged, fronts, odd] = sheets::compare(&mut all);
+    print(
+        &rt,
+        &[
+            named,
+            checked,
+            known,
+            lengths,
+            cites,
+            cut_off,
+            changed,
+            good,
+            damaged,
+            fronts,
+            odd,
+            all.accepted,
+            all.certified,
+            all.refused,
+            all.reread,
+            all.reported,
+            all.written,
+            all.read_back,
+            all.rewritten,
+            all.reasons(),
+        ],
+    )?;
+    Ok(())
 }

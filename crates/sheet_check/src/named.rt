@@ -1,13 +1,11 @@
 // The supplies that fields name, each pair of a timetable and a share.
 use crate::alike::same_supply;
-use crate::comparison::Comparison;
-use crate::lent::BEFORE;
+use crate::outputs::BEFORE;
 use crate::supplies;
 use grammar::Fields;
 use lines::Lines;
 use refusal::{Layer, Reason, Refusal};
 use sheet::{supply_of, write};
-use std::alloc::AllocError;
 use trial_tools::Tally;
 
 static TIMETABLES: [(u8, u64); 16] = [
@@ -61,37 +59,21 @@ fn is_checked(fields: Fields) -> bool {
     answer == Err(expected) && list == [BEFORE; 16]
 }
 
-// The groups of fields.
-#[derive(Clone, Copy)]
-struct Pairs {
-    named: Tally,
-    checked: Tally,
-}
-
-impl Pairs {
-    // Compares a timetable with each share.
-    fn compare_timetable(&mut self, length: u8, word: u64) {
+// Compares every pair.
+pub(crate) fn compare() -> [Tally; 2] {
+    let mut named = Tally::of("supplies that fields name");
+    let mut checked = Tally::of("fields checked before the list's length");
+    for (length, word) in &TIMETABLES {
         for (share, of) in &SHARES {
             let fields = Fields {
-                length,
-                word,
+                length: *length,
+                word: *word,
                 share: *share,
                 of: *of,
             };
-            self.named.note(is_named(fields));
-            self.checked.note(is_checked(fields));
+            named.note(is_named(fields));
+            checked.note(is_checked(fields));
         }
     }
-}
-
-// Compares every pair.
-pub(crate) fn compare(comparison: &mut Comparison) -> Result<(), AllocError> {
-    let mut pairs = Pairs {
-        named: Tally::of("supplies that fields name"),
-        checked: Tally::of("fields checked before the list's length"),
-    };
-    for (length, word) in &TIMETABLES {
-        pairs.compare_timetable(*length, *word);
-    }
-    comparison.done.extend([pairs.named, pairs.checked])
+    [named, checked]
 }

@@ -1,12 +1,11 @@
-// What a sheet should give, by the rules: its records are judged one by one. It shares no code with the reader.
-use crate::pieces::{Kind, Piece, Pieces};
+// What a sheet should give, by the rules: its records are cut off one after another by their marks and lengths, and judged. It shares
+// no code with the reader.
 use crate::supplies;
 use grammar::Fields;
 use lines::Row;
 use refusal::{Layer, Reason, Refusal};
 use roster::Roster;
 use sheet::SheetRefusal;
-use std::alloc::{AllocError, Global};
 use supply::{Bottom, Named, Whole};
 
 // The longest sheet.
@@ -20,66 +19,6 @@ pub(crate) fn empty() -> Roster<Named> {
     Roster::open(Named::Plain(Bottom::Whole(Whole)))
 }
 
-// The byte at a place of a record.
-fn byte(record: &[u8], at: usize) -> u8 {
-    record.get(at).copied().unwrap_or(0)
-}
-
-// The number that two bytes of a record spell.
-fn two(record: &[u8], at: usize) -> u16 {
-    u16::from_be_bytes([byte(record, at), byte(record, at.saturating_add(1))])
-}
-
-// The fields of a first record.
-pub(crate) fn fields(record: &[u8]) -> Fields {
-    let word = record
-        .get(3..)
-        .and_then(|rest| rest.first_chunk::<8>())
-        .map_or(0, |digits| u64::from_be_bytes(*digits));
-    Fields {
-        length: byte(record, 2),
-        word,
-        share: byte(record, 11),
-        of: byte(record, 12),
-    }
-}
-
-// The line of a record.
-fn row(record: &[u8]) -> Row {
-    Row {
-        period: two(record, 2),
-        deadline: two(record, 4),
-        cost: two(record, 6),
-    }
-}
-
-// Judges a record behind so many others. A match: a sheet has no kinds but these four, and each is judged by a call of its own.
-fn judge(
-    roster: &mut Roster<Named>,
-    kind: Kind,
-    record: &[u8],
-    before: usize,
-) -> Result<(), Refusal> {
-    match kind {
-        Kind::Opening => {
-            *roster = Roster::open(supplies::named(fields(record))?);
-        }
-        Kind::Line => {
-            roster.enrol(row(record))?;
-        }
-        Kind::Certificate => {
-            let cites = record.get(7..).unwrap_or(&[]);
-            roster.cut(two(record, 2), two(record, 4), cites)?;
-        }
-        Kind::Closing => {
-            if usize::from(two(record, 2)) != before {
-                return Err(Refusal::by(Layer::Sheet, Reason::ClosingCountWrong));
-            }
-        }
-    }
-    Ok(())
-}
-
 // A refusal at a record, from 1, that begins at a byte. Sheets are far too short for larger numbers.
 pub(crate) fn at(refusal: Refusal, record: usize, byte: usize) -> SheetRefusal {
     SheetRefusal {
@@ -89,32 +28,116 @@ pub(crate) fn at(refusal: Refusal, record: usize, byte: usize) -> SheetRefusal {
     }
 }
 
-// What the records of a sheet give, one after another, and then a fault behind them.
-fn judged(bytes: &[u8], pieces: &Pieces) -> Reading {
-    let mut roster = empty();
-    for (before, piece) in pieces.all.iter().enumerate() {
-        let record = bytes.get(piece.start..piece.end).unwrap_or(&[]);
-        judge(&mut roster, piece.kind, record, before).map_err(|refusal| at(
-            refusal,
-            before.saturating_add(1),
-            piece.start,
-        ))?;
+// A refusal of the sheet's own.
+pub(crate) fn by_sheet(reason: Reason) -> Refusal {
+    Refusal::by(Layer::Sheet, reason)
+}
+
+// The byte at a place of a record.
+fn byte(record: &[u8], at: usize) -> u8 {
+    record.get(at).copied().unwrap_or(0)
+}
+
+// The record at the front of some bytes, which may be the first of its sheet, and what is behind it, or why there is none. The
+// number of a certificate's cites stands in its seventh byte.
+fn front(bytes: &[u8], is_first: bool) -> Result<(&[u8], &[u8]), Refusal> {
+    if bytes.len() < 2 {
+        return Err(by_sheet(Reason::SheetCutShort));
     }
-    match pieces.fault {
-        Some(reason) => Err(at(
-            Refusal::by(Layer::Sheet, reason),
-            pieces.all.len().saturating_add(1),
-            pieces.end,
-        )),
-        None => Ok(roster),
+    let size = match (byte(bytes, 0), byte(bytes, 1)) {
+        (b'S', b'U') => 13,
+        (b'L', b'N') => 8,
+        (b'C', b'U') => 7 + 4 * usize::from(byte(bytes, 6)),
+        (b'E', b'N') => 4,
+        _ => return Err(by_sheet(Reason::MarkMisplaced)),
+    };
+    if bytes.starts_with(b"SU") != is_first {
+        return Err(by_sheet(Reason::MarkMisplaced));
+    }
+    bytes
+        .split_at_checked(size)
+        .ok_or(by_sheet(Reason::SheetCutShort))
+}
+
+// The number that two bytes of a record spell.
+fn two(record: &[u8], at: usize) -> u16 {
+    u16::from_be_bytes([byte(record, at), byte(record, at.saturating_add(1))])
+}
+
+// The fields of a first record.
+pub(crate) fn fields(record: &[u8]) -> Fields {
+    match record {
+        [_, _, length, a, b, c, d, e, f, g, h, share, of, ..] => Fields {
+            length: *length,
+            word: u64::from_be_bytes([*a, *b, *c, *d, *e, *f, *g, *h]),
+            share: *share,
+            of: *of,
+        },
+        _ => Fields::WHOLE,
     }
 }
 
-// What a sheet should give.
-pub(crate) fn reading(heap: Global, bytes: &[u8]) -> Result<Reading, AllocError> {
-    if bytes.len() > LONGEST {
-        return Ok(Err(at(Refusal::by(Layer::Sheet, Reason::TooLarge), 0, 0)));
+// Judges a record behind so many others. A match: a sheet has no kinds but these four, and each is judged by a call of its own.
+fn judge(roster: &mut Roster<Named>, record: &[u8], before: usize) -> Result<(), Refusal> {
+    match byte(record, 0) {
+        b'S' => {
+            *roster = Roster::open(supplies::named(fields(record))?);
+        }
+        b'L' => {
+            roster.enrol(Row {
+                period: two(record, 2),
+                deadline: two(record, 4),
+                cost: two(record, 6),
+            })?;
+        }
+        b'C' => {
+            let cites = record.get(7..).unwrap_or(&[]);
+            roster.cut(two(record, 2), two(record, 4), cites)?;
+        }
+        _ => {
+            if usize::from(two(record, 2)) != before {
+                return Err(by_sheet(Reason::ClosingCountWrong));
+            }
+        }
     }
-    let pieces = Pieces::of(heap, bytes)?;
-    Ok(judged(bytes, &pieces))
+    Ok(())
+}
+
+// Takes the record at the front of some bytes, behind so many others, and answers what is behind it.
+fn taken<'a>(
+    roster: &mut Roster<Named>,
+    bytes: &'a [u8],
+    before: usize,
+) -> Result<&'a [u8], Refusal> {
+    let (record, behind) = front(bytes, before == 0)?;
+    judge(roster, record, before)?;
+    Ok(behind)
+}
+
+// What a sheet should give. Each record takes bytes off the front, so there are no more records than bytes; a sheet of none is cut
+// short at once.
+pub(crate) fn reading(bytes: &[u8]) -> Reading {
+    if bytes.len() > LONGEST {
+        return Err(at(by_sheet(Reason::TooLarge), 0, 0));
+    }
+    let mut roster = empty();
+    let mut rest = bytes;
+    let mut is_closed = false;
+    for before in 0..bytes.len() {
+        let number = before.saturating_add(1);
+        let start = bytes.len().saturating_sub(rest.len());
+        if is_closed {
+            return if rest.is_empty() {
+                Ok(roster)
+            } else {
+                Err(at(by_sheet(Reason::BytesAfterEnd), number, start))
+            };
+        }
+        is_closed = rest.starts_with(b"EN");
+        match taken(&mut roster, rest, before) {
+            Ok(behind) => rest = behind,
+            Err(refusal) => return Err(at(refusal, number, start)),
+        }
+    }
+    Err(at(by_sheet(Reason::SheetCutShort), 1, 0))
 }

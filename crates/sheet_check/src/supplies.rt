@@ -3,16 +3,18 @@ use grammar::Fields;
 use refusal::{Layer, Reason, Refusal};
 use supply::{Bottom, Named, Share, Timetable, Whole};
 
-// Whether a slot is given: its digit of the word is 1.
-fn gives(word: u64, slot: u8) -> bool {
-    word.wrapping_shr(u32::from(slot)) % 2 == 1
-}
-
-// Whether a timetable gives some slot of its length, and none behind.
+// Whether a timetable gives some slot of its length, and none behind. A slot is given where its digit of the word is 1.
 fn lawful(length: u8, word: u64) -> bool {
-    length <= 64
-        && (0..length).any(|slot| gives(word, slot))
-        && !(length..64).any(|slot| gives(word, slot))
+    let mut gives = false;
+    for slot in 0u8..64 {
+        if word.wrapping_shr(u32::from(slot)) % 2 == 1 {
+            if slot >= length {
+                return false;
+            }
+            gives = true;
+        }
+    }
+    gives && length <= 64
 }
 
 // The timetable, or the whole processor where both figures are 0.

@@ -1,10 +1,7 @@
 // What is to be told of a sheet: four lines of a roster, or one of a refusal.
 use crate::plain::Reading;
 use refusal::Layer;
-use roster::Roster;
-use sheet::SheetRefusal;
 use std::alloc::{AllocError, Global};
-use supply::Named;
 
 // The word for a layer, written again here since the library's words are what is compared.
 fn layer(layer: Layer) -> &'static str {
@@ -16,15 +13,18 @@ fn layer(layer: Layer) -> &'static str {
     }
 }
 
-fn told_refusal(heap: Global, refused: &SheetRefusal) -> Result<String, AllocError> {
-    let number = refused.refusal.reason.number();
-    let layer = layer(refused.refusal.layer);
-    let record = refused.record;
-    let byte = refused.byte;
-    format!(in heap; "refused {number} {layer} record {record} byte {byte}\n")
-}
-
-fn told_roster(heap: Global, roster: &Roster<Named>) -> Result<String, AllocError> {
+// What is to be told of a reading.
+pub(crate) fn told(heap: Global, reading: &Reading) -> Result<String, AllocError> {
+    let roster = match reading {
+        Ok(roster) => roster,
+        Err(refused) => {
+            let number = refused.refusal.reason.number();
+            let layer = layer(refused.refusal.layer);
+            let record = refused.record;
+            let byte = refused.byte;
+            return format!(in heap; "refused {number} {layer} record {record} byte {byte}\n");
+        }
+    };
     let lines = roster.lines().len();
     let rest = roster.lines().first_rest();
     let watched = roster.watched().len();
@@ -33,13 +33,5 @@ fn told_roster(heap: Global, roster: &Roster<Named>) -> Result<String, AllocErro
         Some(t) => {
             format!(in heap; "lines {lines}\nrest {rest}\nwatched {watched}\noverloaded {t}\n")
         }
-    }
-}
-
-// What is to be told of a reading.
-pub(crate) fn told(heap: Global, reading: &Reading) -> Result<String, AllocError> {
-    match reading {
-        Ok(roster) => told_roster(heap, roster),
-        Err(refused) => told_refusal(heap, refused),
     }
 }
