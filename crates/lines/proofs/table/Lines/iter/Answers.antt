@@ -1,0 +1,6 @@
+-- The search that closes it is named, so that a wrong body is refused without the longer ones.
+use Rattle.std.proofs.Common.{rules}
+use Rattle.lines.proofs.table.Lines.iter.Goals as goal
+
+pub returns-clause-rows : goal.returns-clause-rows
+returns-clause-rows c = search rules
