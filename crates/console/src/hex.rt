@@ -1,20 +1,21 @@
-// Bytes as a word: two hex digits to a byte.
+// Sheets as words: two hex digits to a byte.
 use commands::{Trouble, Usage};
 use std::alloc::Global;
 use std::fmt;
 
-// Bytes that are shown in hex.
+// A sheet that is shown in hex.
 #[derive(Drop)]
-pub(crate) struct Hex<'a> {
+pub(crate) struct Sheet<'a> {
     pub(crate) bytes: &'a [u8],
 }
 
-impl<'a> fmt::Display for Hex<'a> {
+impl<'a> fmt::Display for Sheet<'a> {
     fn fmt<W: fmt::Write>(&self, f: &mut fmt::Formatter<W>) -> fmt::Result {
+        f.write_str("sheet ")?;
         for byte in self.bytes {
             write!(f, "{byte:02x}")?;
         }
-        Ok(())
+        f.write_str("\n")
     }
 }
 
@@ -31,13 +32,18 @@ fn byte(pair: &[u8]) -> Option<u8> {
     u8::try_from(value(*high)? << 4 | value(*low)?).ok()
 }
 
-// The bytes that a word spells.
-pub(crate) fn bytes(heap: Global, word: &str, usage: Usage) -> Result<Vec<u8>, Trouble> {
+// The bytes of the sheet that the words of a `read` spell: one word, or none for a sheet without bytes.
+pub(crate) fn bytes(heap: Global, words: &[&str]) -> Result<Vec<u8>, Trouble> {
+    let digits = match words {
+        [] => "",
+        [word] => *word,
+        _ => return Err(Trouble::Usage(Usage::Read)),
+    };
     let mut bytes = Vec::new(heap);
-    for pair in word.as_bytes().chunks(2) {
+    for pair in digits.as_bytes().chunks(2) {
         match byte(pair) {
             Some(byte) => bytes.push(byte)?,
-            None => return Err(Trouble::Usage(usage)),
+            None => return Err(Trouble::Usage(Usage::Read)),
         }
     }
     Ok(bytes)

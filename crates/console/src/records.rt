@@ -2,30 +2,16 @@
 ghost use Rattle.std.specs.Prelude.{length};
 ghost use Rattle.std.specs.Iterator.{at_most};
 
-use commands::Trouble;
 use explanations::Certificate;
 use grammar::Fields;
 use roster::Cite;
-use std::alloc::Global;
+use std::alloc::{AllocError, Global};
 
-// One record, as far as the console looks into it. The fields are read once more here: the sheet's reader opens their supply and
-// keeps none of them.
+// One record behind the first, as far as the console looks into it.
 #[derive(Drop)]
 pub(crate) enum Record<'a> {
-    Supply(Fields),
     Line,
     Cut(CutRecord<'a>),
-}
-
-// The fields that the bytes behind the mark of a first record spell.
-fn fields(record: [u8; 11]) -> Fields {
-    let [length, w7, w6, w5, w4, w3, w2, w1, w0, share, of] = record;
-    Fields {
-        length,
-        word: u64::from_be_bytes([w7, w6, w5, w4, w3, w2, w1, w0]),
-        share,
-        of,
-    }
 }
 
 // The record of a cut.
@@ -39,15 +25,14 @@ pub(crate) struct CutRecord<'a> {
 
 impl<'a> CutRecord<'a> {
     // The certificate of the cut.
-    pub(crate) fn certificate(&self, heap: Global) -> Result<Certificate, Trouble> {
+    pub(crate) fn certificate(&self, heap: Global) -> Result<Certificate, AllocError> {
+        let (records, _) = self.cites.as_chunks::<4>();
         let mut cites = Vec::new(heap);
-        for bytes in self.cites.chunks_exact(4) {
-            if let [d1, d0, w1, w0] = bytes {
-                cites.push(Cite {
-                    deadline: u16::from_be_bytes([*d1, *d0]),
-                    weight: u16::from_be_bytes([*w1, *w0]),
-                })?;
-            }
+        for [d1, d0, w1, w0] in records {
+            cites.push(Cite {
+                deadline: u16::from_be_bytes([*d1, *d0]),
+                weight: u16::from_be_bytes([*w1, *w0]),
+            })?;
         }
         Ok(Certificate {
             deadline: self.deadline,
@@ -57,10 +42,24 @@ impl<'a> CutRecord<'a> {
     }
 }
 
-// The records of a sheet up to the last, one after the other.
+// The records of a sheet behind the first and up to the last, one after the other.
 #[derive(Drop)]
 pub(crate) struct Records<'a> {
-    pub(crate) rest: &'a [u8],
+    rest: &'a [u8],
+}
+
+// The fields that the first record of a sheet spells, and the records behind it. The fields are read once more here: the sheet's
+// reader opens their supply and keeps none of them.
+pub(crate) fn opened(sheet: &[u8]) -> Option<(Fields, Records<'_>)> {
+    let (first, rest) = sheet.split_first_chunk::<13>()?;
+    let [_, _, length, w7, w6, w5, w4, w3, w2, w1, w0, share, of] = *first;
+    let fields = Fields {
+        length,
+        word: u64::from_be_bytes([w7, w6, w5, w4, w3, w2, w1, w0]),
+        share,
+        of,
+    };
+    Some((fields, Records { rest }))
 }
 
 impl<'a> Iterator for Records<'a> {
@@ -70,11 +69,6 @@ impl<'a> Iterator for Records<'a> {
 
     fn next(&mut self) -> Option<Record<'a>> {
         match self.rest {
-            [b'S', b'U', rest @ ..] => {
-                let (record, rest) = rest.split_first_chunk::<11>()?;
-                self.rest = rest;
-                Some(Record::Supply(fields(*record)))
-            }
             [b'L', b'N', _, _, _, _, _, _, rest @ ..] => {
                 self.rest = rest;
                 Some(Record::Line)

@@ -53,19 +53,10 @@ enum Question {
     Write,
 }
 
-const QUESTIONS: [(&str, Question); 7] = [
-    ("help", Question::Help),
-    ("lines", Question::Lines),
-    ("rest", Question::Rest),
-    ("watched", Question::Watched),
-    ("verdict", Question::Verdict),
-    ("witness", Question::Witness),
-    ("write", Question::Write),
-];
-
-// What has words behind its name. Those that ask the supply are others' to know.
+// What a name stands for. The commands that ask the supply are others' to know.
 #[derive(Clone, Copy)]
 enum Command {
+    Question(Question),
     Open,
     Enrol,
     Strike,
@@ -78,24 +69,31 @@ enum Command {
     Read,
 }
 
-const COMMANDS: [(&str, Command); 10] = [
+const COMMANDS: [(&str, Command); 17] = [
+    ("help", Command::Question(Question::Help)),
     ("open", Command::Open),
     ("enrol", Command::Enrol),
     ("strike", Command::Strike),
     ("recost", Command::Recost),
     ("cut", Command::Cut),
+    ("lines", Command::Question(Question::Lines)),
+    ("rest", Command::Question(Question::Rest)),
+    ("watched", Command::Question(Question::Watched)),
     ("counts", Command::Counts),
     ("demand", Command::Demand),
+    ("verdict", Command::Question(Question::Verdict)),
+    ("witness", Command::Question(Question::Witness)),
     ("run", Command::Run),
     ("explain", Command::Explain),
+    ("write", Command::Question(Question::Write)),
     ("read", Command::Read),
 ];
 
-// What a name stands for in a table.
-fn named_by<T: Copy>(table: &[(&str, T)], name: &str) -> Option<T> {
-    for (known, meant) in table {
+// The command that a name stands for.
+fn find(name: &str) -> Option<Command> {
+    for (known, command) in &COMMANDS {
         if *known == name {
-            return Some(*meant);
+            return Some(*command);
         }
     }
     None
@@ -131,9 +129,7 @@ impl Session {
         self.cuts.clear();
         opened(self.heap, self.roster.supply())
     }
-}
 
-impl Session {
     // What a question answers.
     fn answer(&self, question: Question) -> Result<String, Trouble> {
         match question {
@@ -146,10 +142,16 @@ impl Session {
             Question::Write => self.write(),
         }
     }
+}
 
-    // What a command answers.
-    fn act(&mut self, command: Command, words: &[&str]) -> Result<String, Trouble> {
+impl Obey for Session {
+    fn obey(&mut self, name: &str, words: &[&str]) -> Result<String, Trouble> {
+        let Some(command) = find(name) else {
+            return ask(self.heap, self.roster.supply(), name, words);
+        };
         match command {
+            Command::Question(question) if words.is_empty() => self.answer(question),
+            Command::Question(_) => Err(Trouble::Usage(Usage::Alone)),
             Command::Open => self.open(words),
             Command::Enrol => self.enrol(words),
             Command::Strike => self.strike(words),
@@ -160,21 +162,6 @@ impl Session {
             Command::Run => self.run(words),
             Command::Explain => self.explain(words),
             Command::Read => self.read(words),
-        }
-    }
-}
-
-impl Obey for Session {
-    fn obey(&mut self, name: &str, words: &[&str]) -> Result<String, Trouble> {
-        if let Some(question) = named_by(&QUESTIONS, name) {
-            if !words.is_empty() {
-                return Err(Trouble::Usage(Usage::Alone));
-            }
-            return self.answer(question);
-        }
-        match named_by(&COMMANDS, name) {
-            Some(command) => self.act(command, words),
-            None => ask(self.heap, self.roster.supply(), name, words),
         }
     }
 }

@@ -42,12 +42,11 @@ impl Session {
     pub(crate) fn watched(&self) -> Result<String, Trouble> {
         let watched = self.roster.watched().as_slice();
         let many = watched.len();
-        if many == 0 {
-            return figure(self.heap, "watched", 0);
-        }
-        let mut text = format!(in self.heap; "watched {many}:")?;
+        let mut text = format!(in self.heap; "watched {many}")?;
+        let mut before = ": ";
         for d in watched {
-            write!(text, " {d}")?;
+            write!(text, "{before}{d}")?;
+            before = " ";
         }
         text.push('\n')?;
         Ok(text)

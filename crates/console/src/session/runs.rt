@@ -7,23 +7,32 @@ use texts::RunText;
 // As many slots as a run can fill.
 const MOST_SLOTS: usize = 32_000;
 
+// Jobs, and the phase of the supply in which they are run.
+#[derive(Drop)]
+pub(crate) struct JobList {
+    pub(crate) phase: u32,
+    pub(crate) jobs: Vec<Job>,
+}
+
 impl Session {
-    // Runs the witness, or the jobs that are named in a phase.
-    pub(crate) fn run(&self, words: &[&str]) -> Result<String, Trouble> {
-        let (phase, jobs) = match words {
-            ["witness"] => return self.run_witness(),
-            [phase, jobs @ ..] => (phase, jobs),
-            [] => return Err(Trouble::Usage(Usage::Run)),
-        };
-        let phase = number(phase, Usage::Run)?;
-        let jobs: Vec<Job> = all(self.heap, jobs, Usage::Run)?;
-        self.run_jobs(phase, jobs.as_slice())
+    // The job list that the words of a `run` name: the witness, or jobs in a phase.
+    fn job_list(&self, words: &[&str]) -> Result<JobList, Trouble> {
+        match words {
+            ["witness"] => self.witness_list(),
+            [phase, jobs @ ..] => Ok(JobList {
+                phase: number(phase, Usage::Run)?,
+                jobs: all(self.heap, jobs, Usage::Run)?,
+            }),
+            [] => Err(Trouble::Usage(Usage::Run)),
+        }
     }
 
     // Runs jobs in a phase: how it ends, the slots, and a chart of them.
-    pub(crate) fn run_jobs<'a>(&'a self, phase: u32, jobs: &'a [Job]) -> Result<String, Trouble> {
+    pub(crate) fn run(&self, words: &[&str]) -> Result<String, Trouble> {
+        let list = self.job_list(words)?;
+        let jobs = list.jobs.as_slice();
         let mut slots = vec![in self.heap; 0u16; MOST_SLOTS]?;
-        let outcome = self.roster.run(phase, jobs, slots.as_mut_slice())?;
+        let outcome = self.roster.run(list.phase, jobs, slots.as_mut_slice())?;
         let run = RunText {
             lines: self.roster.lines(),
             jobs,

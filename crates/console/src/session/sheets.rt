@@ -1,8 +1,8 @@
 // Commands about sheets: write the roster as one, and read one.
-use crate::hex::{Hex, bytes};
-use crate::records::{Record, Records};
+use crate::hex::{Sheet, bytes};
+use crate::records::{Record, opened};
 use crate::session::Session;
-use commands::{Trouble, Usage};
+use commands::{Trouble, text};
 use grammar::Fields;
 
 // The length of the longest sheet that is written: its first record, 8 lines, and its last record.
@@ -14,35 +14,34 @@ impl Session {
         let mut sheet = vec![in self.heap; 0u8; MOST_BYTES]?;
         let length = sheet::write(self.roster.lines(), self.fields, sheet.as_mut_slice())?;
         sheet.truncate(length);
-        let hex = Hex {
+        let sheet = Sheet {
             bytes: sheet.as_slice(),
         };
-        Ok(format!(in self.heap; "sheet {hex}\n")?)
+        text(self.heap, &sheet)
     }
 
-    // Takes over what the records of an accepted sheet say beside its lines. The watch list is set in full by each line.
-    fn remember(&mut self, sheet: &[u8]) -> Result<(), Trouble> {
-        for record in (Records { rest: sheet }) {
-            match record {
-                Record::Supply(fields) => self.fields = fields,
-                Record::Line => self.cuts.clear(),
-                Record::Cut(cut) => self.cuts.push(cut.certificate(self.heap)?)?,
+    // Reads the bytes of a sheet in place of the roster, and takes over what its records say beside its lines. The watch list is set
+    // in full by each line. A refused sheet leaves no lines, on the whole processor.
+    fn take(&mut self, sheet: &[u8]) -> Result<(), Trouble> {
+        self.fields = Fields::WHOLE;
+        self.cuts.clear();
+        sheet::read(&mut self.roster, sheet)?;
+        if let Some((fields, records)) = opened(sheet) {
+            self.fields = fields;
+            for record in records {
+                match record {
+                    Record::Line => self.cuts.clear(),
+                    Record::Cut(cut) => self.cuts.push(cut.certificate(self.heap)?)?,
+                }
             }
         }
         Ok(())
     }
 
-    // Reads a sheet in place of the roster. A refused one leaves no lines, on the whole processor.
+    // Reads the sheet that is spelled.
     pub(crate) fn read(&mut self, words: &[&str]) -> Result<String, Trouble> {
-        let sheet = match words {
-            [] => Vec::new(self.heap),
-            [word] => bytes(self.heap, word, Usage::Read)?,
-            _ => return Err(Trouble::Usage(Usage::Read)),
-        };
-        self.fields = Fields::WHOLE;
-        self.cuts.clear();
-        sheet::read(&mut self.roster, sheet.as_slice())?;
-        self.remember(sheet.as_slice())?;
+        let sheet = bytes(self.heap, words)?;
+        self.take(sheet.as_slice())?;
         let many = self.roster.lines().len();
         Ok(format!(in self.heap; "read {many} lines\n")?)
     }
