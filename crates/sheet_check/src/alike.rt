@@ -1,6 +1,5 @@
 // Whether two answers are the same.
 use crate::draft::Draft;
-use crate::plain::Reading;
 use grammar::Fields;
 use lines::Lines;
 use roster::Roster;
@@ -33,13 +32,4 @@ pub(crate) fn same_roster(one: &Roster<Named>, other: &Roster<Named>) -> bool {
         && one.watched().as_slice() == other.watched().as_slice()
         && one.lines().first_rest() == other.lines().first_rest()
         && one.verdict() == other.verdict()
-}
-
-// Whether two readings are the same.
-pub(crate) fn same(one: &Reading, other: &Reading) -> bool {
-    match (one, other) {
-        (Ok(this), Ok(that)) => same_roster(this, that),
-        (Err(this), Err(that)) => *this == *that,
-        _ => false,
-    }
 }

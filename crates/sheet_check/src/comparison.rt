@@ -1,11 +1,10 @@
 // Sheets that the library and the plain reader read, and whether they make the same of them.
-use crate::alike::{same, same_roster};
+use crate::alike::same_roster;
 use crate::plain;
-use crate::plain::Reading;
+use crate::plain::Outcome;
 use refusal::Reason;
 use sheet::SheetRefusal;
 use short_list::ShortList;
-use std::alloc::Global;
 use trial_tools::Tally;
 
 // The reasons of refusals, and whether a sheet can be refused for each.
@@ -40,7 +39,6 @@ type Reasons = ShortList<Reason, 32>;
 // What is compared of every sheet, whichever group it is of, and the reasons for which one was refused.
 #[derive(Clone, Copy)]
 pub(crate) struct Comparison {
-    pub(crate) heap: Global,
     pub(crate) accepted: Tally,
     pub(crate) certified: Tally,
     pub(crate) refused: Tally,
@@ -54,9 +52,8 @@ pub(crate) struct Comparison {
 
 impl Comparison {
     // Nothing is compared yet.
-    pub(crate) fn new(heap: Global) -> Comparison {
+    pub(crate) fn new() -> Comparison {
         Comparison {
-            heap,
             accepted: Tally::of("accepted sheets of all these"),
             certified: Tally::of("of them with certificates"),
             refused: Tally::of("refused sheets of all these"),
@@ -72,21 +69,22 @@ impl Comparison {
     // Compares what is read of a sheet, reported on it and written of it.
     pub(crate) fn compare(&mut self, group: &mut Tally, bytes: &[u8]) {
         let expected = plain::reading(bytes);
-        let same = same(&sheet::from_bytes(bytes), &expected);
+        let same = is_read(bytes, &expected);
         group.note(same);
         self.reread.note(is_reread(bytes, &expected));
         self.compare_report(bytes, &expected);
-        match &expected {
-            Ok(roster) => {
+        match expected.refused {
+            Some(refused) => {
+                self.refused.note(same);
+                meet(&mut self.met, refused.refusal.reason);
+            }
+            None => {
+                let roster = &expected.roster;
                 self.accepted.note(same);
                 if roster.watched().len() < roster.lines().full_list().len() {
                     self.certified.note(same);
                 }
                 self.compare_written(bytes, roster);
-            }
-            Err(refused) => {
-                self.refused.note(same);
-                meet(&mut self.met, refused.refusal.reason);
             }
         }
     }
@@ -122,14 +120,19 @@ fn meet(met: &mut Reasons, reason: Reason) {
 // A sheet with a line on a share of a timetable, whose lines are there before another sheet is read.
 static OTHER: &[u8] = b"SU\x04\0\0\0\0\0\0\0\x03\x01\x02LN\0\x08\0\x05\0\x02EN\0\x02";
 
-// Whether reading a sheet in place of other lines leaves what it should, and after a refused sheet no lines on the whole processor.
-fn is_reread(bytes: &[u8], expected: &Reading) -> bool {
-    let Ok(mut roster) = plain::reading(OTHER) else {
-        return false;
-    };
-    let answer = sheet::read(&mut roster, bytes);
-    match expected {
-        Ok(read) => answer.is_ok() && same_roster(&roster, read),
-        Err(refused) => answer == Err(*refused) && same_roster(&roster, &plain::empty()),
+// Whether reading a sheet gives what it should.
+fn is_read(bytes: &[u8], expected: &Outcome) -> bool {
+    match sheet::from_bytes(bytes) {
+        Ok(roster) => expected.refused.is_none() && same_roster(&roster, &expected.roster),
+        Err(refused) => expected.refused == Some(refused),
     }
+}
+
+// Whether reading a sheet in place of other lines leaves what it should, and after a refused sheet no lines on the whole processor.
+fn is_reread(bytes: &[u8], expected: &Outcome) -> bool {
+    let mut other = plain::reading(OTHER);
+    let answer = sheet::read(&mut other.roster, bytes);
+    other.refused.is_none()
+        && answer.err() == expected.refused
+        && same_roster(&other.roster, &expected.roster)
 }

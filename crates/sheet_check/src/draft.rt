@@ -2,11 +2,11 @@ use grammar::Fields;
 use lines::{Lines, Row};
 use short_list::ShortList;
 
-// A sheet that is spelled record by record, and how many records it has. It has room for every sheet that is spelled so; more bytes
-// are left out.
+// A sheet that is spelled record by record, and how many records it has. It has room for every sheet that is spelled so, the longest
+// with a certificate of 255 cites; more bytes are left out.
 #[derive(Clone, Copy)]
 pub(crate) struct Draft {
-    pub(crate) bytes: ShortList<u8, 256>,
+    pub(crate) bytes: ShortList<u8, 1040>,
     records: u16,
 }
 
@@ -29,6 +29,11 @@ impl Draft {
         let mut draft = Draft::open(fields, lines);
         draft.close();
         draft
+    }
+
+    // So many bytes of its front, and none of a shorter sheet.
+    pub(crate) fn front(&self, length: usize) -> &[u8] {
+        self.bytes.as_slice().get(..length).unwrap_or(&[])
     }
 
     // Bytes that are no record.

@@ -1,6 +1,9 @@
 // Sheets about as long as they may be, and certificates with few cites and with many.
 use crate::comparison::Comparison;
+use crate::draft::Draft;
 use crate::plain::{at, by_sheet};
+use grammar::Fields;
+use lines::Lines;
 use refusal::{Layer, Reason, Refusal};
 use trial_tools::Tally;
 
@@ -20,32 +23,31 @@ pub(crate) fn compare_lengths(comparison: &mut Comparison) -> Tally {
     group
 }
 
-// A sheet that ends behind a certificate of 255 cites. Their number stands at byte 19.
-fn with_cites() -> [u8; 1040] {
-    let mut bytes = [0; 1040];
-    bytes[..20].copy_from_slice(b"SU\0\0\0\0\0\0\0\0\0\0\0CU\0\x05\0\x01\xff");
-    for cite in bytes[20..].chunks_exact_mut(4) {
-        cite.copy_from_slice(b"\0\x05\0\x01");
+// A sheet that ends behind a certificate of some number of cites.
+fn with_cites(number: u8) -> Draft {
+    let mut draft = Draft::open(Fields::WHOLE, &Lines::none());
+    draft.cut(5, 1, number, &[]);
+    for _ in 0..number {
+        draft.raw(b"\0\x05\0\x01");
     }
-    bytes
+    draft
 }
 
 // Compares certificates of many numbers of cites, whole and without their last byte. Nothing is watched on a sheet without lines.
 pub(crate) fn compare_cites(comparison: &mut Comparison) -> Tally {
     let mut group = Tally::of("certificates by their number of cites");
-    let mut bytes = with_cites();
+    let cut_short = at(by_sheet(Reason::SheetCutShort), 2, 13);
     for number in [0u8, 1, 7, 8, 9, 64, 128, 255] {
-        bytes[19] = number;
-        let length = 20 + 4 * usize::from(number);
         let reason = if number == 0 || number > 8 {
             Reason::CertificateOutOfRange
         } else {
             Reason::NotWatched
         };
+        let draft = with_cites(number);
         let refused = at(Refusal::by(Layer::Roster, reason), 2, 13);
-        comparison.compare_refused(&mut group, &bytes[..length], refused);
-        let cut_short = at(by_sheet(Reason::SheetCutShort), 2, 13);
-        comparison.compare_refused(&mut group, &bytes[..length - 1], cut_short);
+        comparison.compare_refused(&mut group, draft.bytes.as_slice(), refused);
+        let length = draft.bytes.len().saturating_sub(1);
+        comparison.compare_refused(&mut group, draft.front(length), cut_short);
     }
     group
 }

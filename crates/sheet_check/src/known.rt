@@ -10,7 +10,8 @@ struct Case {
     place: Option<u32>,
 }
 
-static CASES: [Case; 48] = [
+// Sheets by the lines and certificates that they leave.
+static ACCEPTED: [Case; 8] = [
     // two lines, no lines, and full lines
     Case {
         sheet: b"SU\0\0\0\0\0\0\0\0\0\0\0LN\0\x08\0\x05\0\x02LN\0\x0f\0\x09\0\x04EN\0\x03",
@@ -55,6 +56,10 @@ static CASES: [Case; 48] = [
         report: "lines 3\nrest 62\nwatched 17\nfits\n",
         place: None,
     },
+];
+
+// Marks out of their place.
+static MARKS: [Case; 13] = [
     // no mark, half a mark, and marks that may not stand first
     Case {
         sheet: b"",
@@ -122,6 +127,10 @@ static CASES: [Case; 48] = [
         report: "refused 20 sheet record 2 byte 13\n",
         place: Some(0),
     },
+];
+
+// Sheets that end too soon or too late.
+static ENDS: [Case; 13] = [
     // sheets that end too soon
     Case {
         sheet: b"SU\0\0\0\0\0\0\0\0\0\0",
@@ -189,6 +198,10 @@ static CASES: [Case; 48] = [
         report: "refused 22 sheet record 4 byte 25\n",
         place: Some(0),
     },
+];
+
+// Figures that are turned down.
+static TURNED_DOWN: [Case; 14] = [
     // supplies that are none
     Case {
         sheet: b"SU\x41\0\0\0\0\0\0\0\x01\0\0EN\0\x01",
@@ -275,12 +288,20 @@ fn is_known(case: &Case) -> bool {
     is_written(answer, &list, case.report.as_bytes()) && place == case.place
 }
 
+// Compares some cases.
+fn compare_cases(comparison: &mut Comparison, group: &mut Tally, cases: &[Case]) {
+    for case in cases {
+        comparison.compare(group, case.sheet);
+        group.note(is_known(case));
+    }
+}
+
 // Compares every case.
 pub(crate) fn compare(comparison: &mut Comparison) -> Tally {
     let mut group = Tally::of("sheets with known reports");
-    for case in &CASES {
-        comparison.compare(&mut group, case.sheet);
-        group.note(is_known(case));
-    }
+    compare_cases(comparison, &mut group, &ACCEPTED);
+    compare_cases(comparison, &mut group, &MARKS);
+    compare_cases(comparison, &mut group, &ENDS);
+    compare_cases(comparison, &mut group, &TURNED_DOWN);
     group
 }

@@ -21,7 +21,7 @@ use trial_tools::print;
 
 // Compares every group, and prints for each how many answers were compared and how many differ.
 fn main(rt: HostRuntime) -> anyhow::Result<()> {
-    let mut all = Comparison::new(rt.alloc());
+    let mut all = Comparison::new();
     let [named, checked] = named::compare();
     let known = known::compare(&mut all);
     let lengths = edges::compare_lengths(&mut all);

@@ -3,7 +3,7 @@ use crate::alike::{same_lines, same_supply};
 use crate::comparison::Comparison;
 use crate::draft::Draft;
 use crate::plain;
-use crate::plain::Reading;
+use crate::plain::Outcome;
 use crate::told::told;
 use grammar::Fields;
 use lines::Lines;
@@ -55,12 +55,10 @@ fn compare_text(tally: &mut Tally, output: Output<'_>, text: &[u8]) {
 }
 
 impl Comparison {
-    // The report on a sheet. (Where there is no memory for the text that it should be, it differs.)
-    pub(crate) fn compare_report(&mut self, bytes: &[u8], reading: &Reading) {
-        match told(self.heap, reading) {
-            Ok(text) => compare_text(&mut self.reported, Output::Report(bytes), text.as_bytes()),
-            Err(_) => self.reported.note(false),
-        }
+    // The report on a sheet.
+    pub(crate) fn compare_report(&mut self, bytes: &[u8], outcome: &Outcome) {
+        let text = told(outcome);
+        compare_text(&mut self.reported, Output::Report(bytes), text.as_slice());
     }
 
     // The lines of a sheet that is accepted, written with its own fields.

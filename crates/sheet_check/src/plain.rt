@@ -11,11 +11,15 @@ use supply::{Bottom, Named, Whole};
 // The longest sheet.
 const LONGEST: usize = 16_384;
 
-// A roster, or why a sheet is refused.
-pub(crate) type Reading = Result<Roster<Named>, SheetRefusal>;
+// What reading a sheet leaves: a roster, or none of its lines and why it is refused.
+#[derive(Drop)]
+pub(crate) struct Outcome {
+    pub(crate) roster: Roster<Named>,
+    pub(crate) refused: Option<SheetRefusal>,
+}
 
 // A roster without lines on the whole processor.
-pub(crate) fn empty() -> Roster<Named> {
+fn empty() -> Roster<Named> {
     Roster::open(Named::Plain(Bottom::Whole(Whole)))
 }
 
@@ -77,30 +81,30 @@ pub(crate) fn fields(record: &[u8]) -> Fields {
     }
 }
 
-// Judges a record behind so many others. A match: a sheet has no kinds but these four, and each is judged by a call of its own.
-fn judge(roster: &mut Roster<Named>, record: &[u8], before: usize) -> Result<(), Refusal> {
+// Why a record behind so many others is turned down, if it is. The first numbers behind its mark are two bytes each. A match: a sheet
+// has no kinds but these four, and each is judged by a call of its own.
+fn judge(roster: &mut Roster<Named>, record: &[u8], before: usize) -> Option<Refusal> {
+    let [first, second, third] = [two(record, 2), two(record, 4), two(record, 6)];
     match byte(record, 0) {
-        b'S' => {
-            *roster = Roster::open(supplies::named(fields(record))?);
-        }
-        b'L' => {
-            roster.enrol(Row {
-                period: two(record, 2),
-                deadline: two(record, 4),
-                cost: two(record, 6),
-            })?;
-        }
-        b'C' => {
-            let cites = record.get(7..).unwrap_or(&[]);
-            roster.cut(two(record, 2), two(record, 4), cites)?;
-        }
-        _ => {
-            if usize::from(two(record, 2)) != before {
-                return Err(by_sheet(Reason::ClosingCountWrong));
+        b'S' => match supplies::named(fields(record)) {
+            Ok(supply) => {
+                *roster = Roster::open(supply);
+                None
             }
-        }
+            Err(refusal) => Some(refusal),
+        },
+        b'L' => roster
+            .enrol(Row {
+                period: first,
+                deadline: second,
+                cost: third,
+            })
+            .err(),
+        b'C' => roster
+            .cut(first, second, record.get(7..).unwrap_or(&[]))
+            .err(),
+        _ => (usize::from(first) != before).then_some(by_sheet(Reason::ClosingCountWrong)),
     }
-    Ok(())
 }
 
 // Takes the record at the front of some bytes, behind so many others, and answers what is behind it.
@@ -110,17 +114,18 @@ fn taken<'a>(
     before: usize,
 ) -> Result<&'a [u8], Refusal> {
     let (record, behind) = front(bytes, before == 0)?;
-    judge(roster, record, before)?;
-    Ok(behind)
+    match judge(roster, record, before) {
+        None => Ok(behind),
+        Some(refusal) => Err(refusal),
+    }
 }
 
-// What a sheet should give. Each record takes bytes off the front, so there are no more records than bytes; a sheet of none is cut
+// Reads a sheet into a roster. Each record takes bytes off the front, so there are no more records than bytes; a sheet of none is cut
 // short at once.
-pub(crate) fn reading(bytes: &[u8]) -> Reading {
+fn read(roster: &mut Roster<Named>, bytes: &[u8]) -> Result<(), SheetRefusal> {
     if bytes.len() > LONGEST {
         return Err(at(by_sheet(Reason::TooLarge), 0, 0));
     }
-    let mut roster = empty();
     let mut rest = bytes;
     let mut is_closed = false;
     for before in 0..bytes.len() {
@@ -128,16 +133,26 @@ pub(crate) fn reading(bytes: &[u8]) -> Reading {
         let start = bytes.len().saturating_sub(rest.len());
         if is_closed {
             return if rest.is_empty() {
-                Ok(roster)
+                Ok(())
             } else {
                 Err(at(by_sheet(Reason::BytesAfterEnd), number, start))
             };
         }
         is_closed = rest.starts_with(b"EN");
-        match taken(&mut roster, rest, before) {
+        match taken(roster, rest, before) {
             Ok(behind) => rest = behind,
             Err(refusal) => return Err(at(refusal, number, start)),
         }
     }
     Err(at(by_sheet(Reason::SheetCutShort), 1, 0))
+}
+
+// What a sheet should leave.
+pub(crate) fn reading(bytes: &[u8]) -> Outcome {
+    let mut roster = empty();
+    let refused = read(&mut roster, bytes).err();
+    if refused.is_some() {
+        roster = empty();
+    }
+    Outcome { roster, refused }
 }

@@ -101,8 +101,7 @@ pub(crate) fn compare(comparison: &mut Comparison) -> [Tally; 4] {
         let mut draft = good(&mut random);
         comparison.compare(&mut whole, draft.bytes.as_slice());
         let length = usize::from(random.below(100));
-        let front = draft.bytes.as_slice().get(0..length).unwrap_or(&[]);
-        comparison.compare(&mut cut_off, front);
+        comparison.compare(&mut cut_off, draft.front(length));
         damage(&mut draft, &mut random);
         comparison.compare(&mut damaged, draft.bytes.as_slice());
         let odd = odd(&mut random);
