@@ -1,7 +1,6 @@
 // The roster console: commands on standard input, one to a line, and what was done on standard output.
 #![tactic(auto)]
 
-mod hex;
 mod records;
 mod session;
 
