@@ -1,6 +1,6 @@
 // The fields of a sheet's first record, plain: a timetable by its length and its number, and a share of `share` in `of`. (Length 0 is
 // the whole processor, and 0 of 0 no share, as the record's bytes have them; `supply_of` makes a `Named` of them.)
-#[derive(Clone, Copy, PartialEq, Eq, Debug)]
+#[derive(Clone, Copy, PartialEq, Eq)]
 pub struct Fields {
     pub length: u8,
     pub word: u64,

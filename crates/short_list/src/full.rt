@@ -1,3 +1,3 @@
 // There was no room for what was to be added.
-#[derive(Clone, Copy)]
+#[derive(Clone, Copy, PartialEq, Eq)]
 pub struct Full;

@@ -3,7 +3,7 @@ ghost use Rattle.supply.specs.Row.{from};
 ghost use Rattle.supply.specs.Share.{LawfulPattern, pattern, sure};
 
 // The pattern of a share: of each `of` slots, the first `given` are taken.
-#[derive(Clone, Copy)]
+#[derive(Clone, Copy, PartialEq, Eq)]
 pub struct Pattern {
     given: u8,
     of: u8,

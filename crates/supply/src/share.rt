@@ -11,14 +11,14 @@ use refusal::{Layer, Reason, Refusal};
 const MOST_PHASES: u32 = 1_000_000;
 
 // A share of the slots that the supply below gives. One that would have too many phases means what the supply below means.
-#[derive(Clone, Copy)]
+#[derive(Clone, Copy, PartialEq, Eq)]
 pub struct Share<B> {
     below: B,
     pattern: Pattern,
 }
 
 // A share that was not made, with the supply that it would have stood over.
-#[derive(Drop)]
+#[derive(Clone, Copy)]
 pub struct ShareRefused<B> {
     pub refusal: Refusal,
     pub below: B,

@@ -4,7 +4,7 @@ ghost use Rattle.std.proofs.Common.{rules};
 use crate::supply::Supply;
 
 // The whole processor: one phase, and every slot is given.
-#[derive(Clone, Copy)]
+#[derive(Clone, Copy, PartialEq, Eq)]
 pub struct Whole;
 
 impl Supply for Whole {
