@@ -6,11 +6,11 @@
     tools/gate_time.py edits RECORD       the processor seconds of each edit, dearest first
     tools/gate_time.py compare OLD NEW    the sums of two records, crate by crate
 
-A run samples its own processes ten times a second. What one of them used after its last sample is lost: at most a
-tenth of a second each. The whole, which the kernel counts, stands beside the sum. Run nothing else meanwhile.
+A run samples its own processes ten times a second. What one of them used after its last sample is lost: about a tenth of a
+second for each of its threads. The whole, which the kernel counts, stands beside the sum. Run nothing else meanwhile.
 
 A crate with two edits or more is proved once more before them, and once more behind them over what that left; both are
-`before edits`. An only edit is tried from nothing.
+`before edits`. An edit that is tried from nothing, as an only one is, is told as the first of its crate.
 """
 import collections
 import json
@@ -31,7 +31,7 @@ def processes():
     found = {}
     for pid in filter(str.isdigit, os.listdir("/proc")):
         try:
-            with open(f"/proc/{pid}/stat") as stat:
+            with open(f"/proc/{pid}/stat", errors="replace") as stat:
                 fields = stat.read().rpartition(")")[2].split()
         except OSError:
             continue
@@ -42,7 +42,7 @@ def processes():
 
 def words_of(pid):
     try:
-        with open(f"/proc/{pid}/cmdline") as line:
+        with open(f"/proc/{pid}/cmdline", errors="replace") as line:
             return line.read().split("\0")
     except OSError:
         return []
@@ -77,27 +77,28 @@ def task_of(words, folder):
     return crate, "proof", None
 
 
+def worker(pid, found, gate, tasks):
+    """Whether a process is one of the gate's, and the task of the prover that it works for, if there is one."""
+    task = None
+    while pid in found and pid != gate:
+        key = pid, found[pid][2]
+        if tasks.get(key) is None:
+            tasks[key] = task_of(words_of(pid), folder_of(pid))
+        task, pid = task or tasks[key], found[pid][0]
+    return pid == gate, task
+
+
 def run(record):
     began = time.monotonic()
     gate = subprocess.Popen(["rt", "ci", "--anew"], cwd=TOP)
     tasks, seen = {}, {}
     while gate.poll() is None:
         now, found = time.monotonic() - began, processes()
-        parent = {pid: it[0] for pid, it in found.items()}
         for pid, (_, used, start) in found.items():
-            up = pid
-            while up in parent and up != gate.pid:
-                key = up, found[up][2]
-                if tasks.get(key) is None:
-                    tasks[key] = task_of(words_of(up), folder_of(up))
-                if tasks[key]:
-                    break
-                up = parent[up]
-            if up not in parent:
-                continue
-            task = tasks.get((up, found[up][2])) if up != gate.pid else None
-            whole = seen.setdefault((pid, start), {"task": None, "from": now})
-            whole.update(task=task or whole["task"], used=used, to=now)
+            is_ours, task = worker(pid, found, gate.pid, tasks)
+            if is_ours:
+                whole = seen.setdefault((pid, start), {"task": None, "from": now})
+                whole.update(task=task or whole["task"], used=used, to=now)
         time.sleep(0.1)
     usage = resource.getrusage(resource.RUSAGE_CHILDREN)
     whole = {
@@ -107,7 +108,7 @@ def run(record):
         "processors": len(os.sched_getaffinity(0)),
         "uses": below(),
         "names": {it: edits_of(it) for it in below()},
-        "processes": [it for it in seen.values() if "used" in it],
+        "processes": list(seen.values()),
     }
     with open(record, "w") as out:
         json.dump(whole, out)
@@ -161,18 +162,32 @@ def chain(uses, clock):
     return max(longest(it) for it in uses)
 
 
+def seconds_of(whole):
+    """The processor seconds of each edit, by its crate and its number."""
+    each = collections.Counter()
+    for it in whole["processes"]:
+        if it["task"] and it["task"][1] == "edits":
+            each[it["task"][0], it["task"][2]] += it["used"]
+    return each
+
+
+def row(*cells):
+    print("| " + " | ".join(f"{it:.0f}" if isinstance(it, float) else str(it) for it in cells) + " |")
+
+
 def table(record):
     whole = read(record)
     used, clock = sums(whole)
-    whole_of = lambda crate: sum(used[crate, part] for part in PARTS)
-    number = {crate: len(names) for crate, names in whole["names"].items()}
-    print("| crate | " + " | ".join(PARTS) + " | number of edits | sum |")
-    print("|---" * (len(PARTS) + 3) + "|")
+    each = seconds_of(whole)
+    whole_of = lambda crate: float(sum(used[crate, part] for part in PARTS))
+    row("crate", *PARTS, "number of edits", "each edit", "sum")
+    row(*["---"] * (len(PARTS) + 4))
     for crate in sorted(whole["uses"], key=whole_of, reverse=True):
-        parts = [used[crate, part] for part in PARTS]
-        print(f"| `{crate}` | " + " | ".join(f"{it:.0f}" if it else "" for it in parts) + f" | {number[crate] or ''} | {whole_of(crate):.0f} |")
-    parts = [sum(used[crate, part] for crate in whole["uses"]) for part in PARTS]
-    print("| all | " + " | ".join(f"{it:.0f}" for it in parts) + f" | {sum(number.values())} | {sum(parts):.0f} |")
+        took = [each[crate, number] for number in range(len(whole["names"][crate]))]
+        span = f"{min(took):.0f} to {max(took):.0f}" if took else ""
+        row(f"`{crate}`", *[used[crate, part] or "" for part in PARTS], len(took) or "", span, whole_of(crate))
+    parts = [float(sum(used[crate, part] for crate in whole["uses"])) for part in PARTS]
+    row("all", *parts, sum(len(it) for it in whole["names"].values()), "", sum(parts))
     print(f"\nBeside these {used['', 'rest']:.0f} seconds of the gate itself, of programs and of tests that ran.")
     tell_whole(whole)
     took, names = chain(whole["uses"], clock)
@@ -181,31 +196,36 @@ def table(record):
 
 def tell_whole(whole):
     print(f"In all {whole['processor'] / 60:.1f} processor minutes, {whole['clock'] / 60:.1f} by the clock on {whole['processors']} processors.")
+    if whole["status"]:
+        print(f"The gate failed, with status {whole['status']}.")
 
 
 def edits(record):
-    whole, used = read(record), collections.Counter()
-    for it in whole["processes"]:
-        if it["task"] and it["task"][1] == "edits":
-            used[it["task"][0], it["task"][2]] += it["used"]
-    for (crate, number), seconds in used.most_common():
+    whole = read(record)
+    for (crate, number), seconds in seconds_of(whole).most_common():
         print(f"{seconds:6.1f} {crate}/{whole['names'][crate][number]}")
 
 
 def compare(old, new):
     both = [read(old), read(new)]
     used = [sums(it)[0] for it in both]
-    whole_of = lambda side, crate: sum(used[side][crate, part] for part in PARTS)
+    whole_of = lambda side, crate: float(sum(used[side][crate, part] for part in PARTS))
+    proof_of = lambda side, crate: float(used[side][crate, "proof"] + used[side][crate, "tests"])
     crates = sorted({*both[0]["uses"], *both[1]["uses"]}, key=lambda it: -whole_of(0, it))
-    told = lambda side, crate: [
-        f"{used[side][crate, 'proof']:.0f}",
-        str(len(both[side]["names"][crate]) or ""),
-        f"{whole_of(side, crate):.0f}",
-    ] if crate in both[side]["uses"] else ["", "", ""]
-    print("| crate | proof | edits | sum | proof now | edits now | sum now |")
-    print("|---" * 7 + "|")
+    row("crate", "proof and tests", "edits", "sum", "proof and tests now", "edits now", "sum now")
+    row(*["---"] * 7)
     for crate in crates:
-        print(f"| `{crate}` | " + " | ".join(told(0, crate) + told(1, crate)) + " |")
+        cells = []
+        for side in (0, 1):
+            is_there = crate in both[side]["uses"]
+            number = len(both[side]["names"].get(crate, [])) or ""
+            cells += [proof_of(side, crate), number, whole_of(side, crate)] if is_there else [""] * 3
+        row(f"`{crate}`", *cells)
+    cells = []
+    for side in (0, 1):
+        names = both[side]["names"]
+        cells += [sum(proof_of(side, it) for it in names), sum(map(len, names.values())), sum(whole_of(side, it) for it in names)]
+    row("all", *cells)
     for whole in both:
         tell_whole(whole)
 
