@@ -44,8 +44,7 @@ pub fn ask<S: Supply>(
     }
 }
 
-// What is answered where a supply was opened. It only prints a figure of the supply, as `ask` does
-// where it has read the words, and neither promises how that is written.
+// What is answered where a supply was opened.
 pub fn opened<S: Supply>(heap: Global, supply: &S) -> Result<String, Trouble> {
     figure(heap, "opened phases", supply.phases())
 }

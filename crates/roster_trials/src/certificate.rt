@@ -5,7 +5,7 @@ use short_list::ShortList;
 use trial_tools::{Generator, Random};
 
 // The deadline that is to leave, the divisor, the cites, and their bytes: deadline and weight, two bytes each, the high byte first.
-// (A type of its own beside the one of texts, which is plain: this one counts by the definitions.)
+// (A type of its own beside the one of explanations, which is plain: this one counts by the definitions.)
 #[derive(Clone, Copy)]
 pub(crate) struct Certificate {
     pub(crate) deadline: u16,

@@ -23,7 +23,8 @@ fn rows_of(lines: &Lines) -> Rows {
     rows
 }
 
-// (Short lists, which need no heap. What leaves one is left out by hand, since the library takes it out by a call of the list.)
+// (Short lists, which need no heap. They are only pushed to and read: what the library takes out or replaces by a call of the list is left
+// out or written anew by hand.)
 #[derive(Clone, Copy)]
 pub(crate) struct Model {
     pub(crate) rows: Rows,
@@ -58,11 +59,16 @@ impl Model {
 
     // A line gets a new cost.
     fn recost(&mut self, number: u8, cost: u16) {
-        let line = usize::from(number);
-        if line < self.rows.len() {
-            let row = self.rows.as_slice()[line];
-            self.rows.replace(line, Row { cost, ..row });
+        let mut rows = no_rows();
+        for (line, row) in self.rows.as_slice().iter().enumerate() {
+            let cost = if line == usize::from(number) {
+                cost
+            } else {
+                row.cost
+            };
+            let _ = rows.push(Row { cost, ..*row });
         }
+        self.rows = rows;
     }
 
     // Watches a deadline no more.

@@ -132,7 +132,7 @@ struct Trial {
 impl Trial {
     // The number of a line that is there.
     fn line(&self, random: &mut Random) -> u8 {
-        let many = self.roster.lines().len();
+        let many = self.model.rows.len();
         random.below(many as u16) as u8
     }
 

@@ -1,4 +1,4 @@
-// What a person reads of a roster: counts, surveys, job lists, and runs with their charts.
+// What a person reads of lines and runs: counts, surveys, job lists, and charts.
 #![tactic(auto)]
 
 mod chart;

@@ -44,14 +44,3 @@ macro_rules! refused {
         })
     };
 }
-
-// Cites, of each its deadline and its weight, for a program over the roster.
-#[macro_export]
-macro_rules! cites {
-    ($(($deadline:expr, $weight:expr)),*) => {
-        &[$(roster::Cite {
-            deadline: $deadline,
-            weight: $weight,
-        }),*]
-    };
-}
