@@ -5,6 +5,8 @@
 mod theorems;
 
 pub use theorems::{
-    busy_window, crowd, exactness, existence, feasibility, optimality, run_laws, sufficiency,
-    uniqueness,
+    late_job_ends_an_overloaded_window, late_under_the_law_is_late_always,
+    law_determines_the_schedule, law_has_a_schedule, met_exactly_with_room,
+    met_list_has_room_everywhere, room_everywhere_suffices, runs_are_determined_exact_and_optimal,
+    stopped_law_meets_exactly_on_time,
 };

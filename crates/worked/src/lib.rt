@@ -4,6 +4,6 @@
 ghost use Rattle.worked.specs.Figures.{Figures};
 
 // Every worked figure is right.
-pub fn figures()
-    ensures { Figures }
+pub fn documented_figures_hold()
+    ensures every_figure_holds { Figures }
 {}

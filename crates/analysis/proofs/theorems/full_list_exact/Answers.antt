@@ -1,5 +1,0 @@
-use Rattle.analysis.proofs.Watching.{full_list_exact}
-use Rattle.analysis.proofs.theorems.full_list_exact.Goals as goal
-
-pub returns : goal.returns
-returns c = full_list_exact

@@ -1,5 +1,0 @@
-use Rattle.edf.proofs.Construction.{existence}
-use Rattle.edf.proofs.theorems.existence.Goals as goal
-
-pub returns : goal.returns
-returns c = existence
