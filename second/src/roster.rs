@@ -32,7 +32,7 @@ impl Roster {
         self.leasts[n]
     }
 
-    /// Adds a line with the next number and sets the full watch list.
+    /// One line more, numbered behind the others; every deadline up to the rest of all of them is then watched.
     pub fn enrol(&mut self, row: Line) -> Result<(), Refusal> {
         self.lines = lines::add(&self.lines, row)?;
         self.watched = lines::full_watch_list(&self.lines);

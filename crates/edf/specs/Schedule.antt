@@ -1,4 +1,4 @@
--- Schedules of timed jobs over given slots, and when they meet every deadline. Slot s runs from instant s to instant s + 1. Assumes nothing.
+-- Schedules of timed jobs over given slots, and when they meet every deadline. Slot s lies between instant s and the next one. Assumes nothing.
 use Rattle.std.specs.Prelude.{◌≡◌, ℕ, zero, suc, ◌+◌, ◌<◌, ◌≤◌, cond, List, length, ◌==◌}
 use Rattle.edf.specs.Jobs.{Job, job}
 
@@ -7,7 +7,7 @@ pub data Turn : Type 0 where
   idle : Turn
   serves : ℕ → Turn
 
--- A schedule gives each slot to one job or to none.
+-- A schedule says for every slot whether it is idle, or which place it serves.
 abbrev pub Schedule : Type 0
 Schedule = ℕ → Turn
 
@@ -25,7 +25,8 @@ unfoldable pub service : Schedule → ℕ → ℕ → ℕ
 service σ k zero = 0
 service σ k (suc s) = service σ k s + worth (σ s) k
 
--- A schedule meets every deadline of a list when each job gets exactly its cost, all in given slots from its release to before its deadline.
+-- A schedule meets every deadline of a list when it serves its jobs in given slots alone, none before the release or once it is due, and each
+-- for as many slots as it costs.
 pub record Meets (g : ℕ → ℕ) (jobs : List Job) (σ : Schedule) : Type 0 where
   -- a slot that serves a job serves one of the list,
   pub there : (s k : ℕ) → σ s ≡ serves k → k < length jobs

@@ -1,4 +1,4 @@
--- What a supply of slots means, and what every supply keeps. Slot s runs from instant s to instant s + 1. Assumes nothing.
+-- What a supply of slots means, and what every supply keeps. Slot s lies between instant s and the next one. Assumes nothing.
 use Rattle.std.specs.Prelude.{◌≡◌, ℕ, suc, ◌+◌, ◌<◌, ◌≤◌}
 
 -- A supply as one value.
@@ -12,7 +12,7 @@ pub record Meaning : Type 0 where
   -- `worst n`: a phase that begins with so few
   pub worst : ℕ → ℕ
 
--- g counts given slots: none at first, and each further slot adds 0 or 1.
+-- g counts given slots: it starts at 0, and with one slot more it stays or grows by 1.
 pub record Counting (g : ℕ → ℕ) : Type 0 where
   pub starts : g 0 ≡ 0
   pub keeps : (n : ℕ) → g n ≤ g (suc n)
@@ -22,11 +22,11 @@ pub record Counting (g : ℕ → ℕ) : Type 0 where
 abbrev pub Counts : Meaning → Type 0
 Counts m = (0 < m.phases) × ((p : ℕ) → p < m.phases → Counting (m.count p))
 
--- The law of windows: any n slots in a row, in any phase, hold at least `least n` given slots.
+-- The law of windows: wherever n slots lie, behind a others of some phase, at least `least n` of them are given.
 abbrev pub Windows : Meaning → Type 0
 Windows m = (p a n : ℕ) → p < m.phases → m.count p a + m.least n ≤ m.count p (a + n)
 
--- The law of attainment: the worst phase is there, and its first n slots hold exactly `least n` given slots.
+-- The law of attainment: the worst phase is one of the phases, and of the n slots with which it begins just `least n` are given.
 abbrev pub Attained : Meaning → Type 0
 Attained m = (n : ℕ) → (m.worst n < m.phases) × (m.count (m.worst n) n ≡ m.least n)
 

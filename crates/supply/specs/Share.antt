@@ -11,8 +11,8 @@ pattern S F = record { turn = F; given = λ i. nat_lt i S }
 abbrev pub sure : ℕ → ℕ → ℕ → ℕ
 sure S F x = x / F * S + (x % F - (F - S))
 
--- A share over a supply with N phases, whose given slots are numbered from 0: in phase p + N × r it gives the slot numbered j of phase p
--- below when (r + j) mod F is less than S.
+-- A share over a supply of N phases. Phase q of the share is phase q mod N below, with the pattern begun at its slot q / N. So the j-th of
+-- the slots that are given below, from j = 0, is given here where (q / N + j) mod F is less than S.
 abbrev pub shared : ℕ → ℕ → Meaning → Meaning
 shared S F m = record { phases = m.phases * F; count = λ p n. from (pattern S F) (p / m.phases) (m.count (p % m.phases) n); least = λ n. sure S F (m.least n); worst = λ n. m.worst n + m.phases * (S % F) }
 
