@@ -78,7 +78,7 @@ impl Supply {
         }
     }
 
-    /// G(p, n): how many of the first n slots are given in phase p.
+    /// count(p, n): how many of the first n slots are given in phase p.
     pub fn count(&self, phase: u32, n: usize) -> u32 {
         self.slots(phase, n).iter().filter(|given| **given).count() as u32
     }
