@@ -13,9 +13,8 @@ use Rattle.run.specs.Promise.{ByLaw, MetExactly}
 use Rattle.run.specs.declared.job.Job.{Job}
 use Rattle.run.specs.declared.outcome.Outcome.{Outcome}
 use Rattle.run.specs.declared.outcome.Outcome.TheVariants.{Met, Missed}
-use Rattle.supply.specs.Making.{LawfulShare}
 use Rattle.supply.specs.Meaning.{Meaning}
-use Rattle.supply.specs.Share.{share}
+use Rattle.supply.specs.Share.{share, LawfulShare}
 use Rattle.supply.specs.Whole.{whole}
 
 -- The call that enrols a line.

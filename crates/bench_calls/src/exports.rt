@@ -1,7 +1,8 @@
 // The functions that the benchmark calls. Each answers on everything that it may be handed.
 ghost use Rattle.bench_calls.specs.Promises.{Judged, Ran, Watches, verdicts_as, end_as, piled, Piles};
-ghost use Rattle.std.specs.Prelude.{◌≡◌, ◌≤◌, ℕ, Option, unwrap_or};
+ghost use Rattle.std.specs.Prelude.{◌≡◌, ◌≤◌, ℕ, MatchOption, Option, unwrap_or};
 ghost use Rattle.run.specs.declared.outcome.Outcome as outcome;
+ghost use Rattle.supply.specs.Share.{LawfulShare};
 ghost use Rattle.supply.specs.Timetable.{timetable, LawfulTimetable};
 ghost use Rattle.supply.specs.Whole.{whole};
 
@@ -9,7 +10,7 @@ use crate::answers::{RunEnd, Verdicts};
 use crate::figures::Figures;
 use crate::often::{enrol, judge, run};
 use run::Job;
-use supply::{Share, Timetable, Whole};
+use supply::{Share, Supply, Timetable, Whole};
 
 // The verdict on lines on the whole processor.
 #[unsafe(no_mangle)]
@@ -33,19 +34,26 @@ pub extern "C" fn bench_timetable(length: u8, word: u64, lines: &[Figures], time
     on_timetable(length, word, lines, times).into()
 }
 
+// A share over a supply, where it may be made.
+fn over<B: Supply + Drop>(below: B, given: u8, of: u8) -> Option<Share<B>>
+    ensures { MatchOption result (LawfulShare (B.meaning below) given of → ⊥) (λ s. LawfulShare (B.meaning below) given of × (s.below ≡ below) × (s.pattern.given ≡ given) × (s.pattern.of ≡ of)) }
+{
+    Share::new(below, given, of).ok()
+}
+
 // The verdict on a pile of one, two or three shares of `given` in `of` over the whole processor.
 fn on_pile(shares: u8, given: u8, of: u8, lines: &[Figures], times: u32) -> Option<Option<u16>>
     ensures { Judged ((1 ≤ shares) × (shares ≤ 3) × Piles given of shares) (piled given of shares) lines.now result }
 {
-    let one = Share::new(Whole, given, of).ok()?;
+    let one = over(Whole, given, of)?;
     if shares == 1 {
         return judge(one, lines, times);
     }
-    let two = Share::new(one, given, of).ok()?;
+    let two = over(one, given, of)?;
     if shares == 2 {
         return judge(two, lines, times);
     }
-    let three = Share::new(two, given, of).ok()?;
+    let three = over(two, given, of)?;
     if shares == 3 {
         return judge(three, lines, times);
     }

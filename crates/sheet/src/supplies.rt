@@ -1,8 +1,8 @@
 // The supplies that a sheet can name.
-ghost use Rattle.grammar.specs.Supplies.{bottom_of, supply_of, field_checks, timetable_check};
+ghost use Rattle.grammar.specs.Supplies.{bottom_of, supply_of, bottom_checks, field_checks};
 ghost use Rattle.refusal.specs.Answers.{Answered};
 ghost use Rattle.supply.specs.Named as means;
-ghost use Rattle.std.specs.Prelude.{◌≡◌, [], ◌∷◌};
+ghost use Rattle.std.specs.Prelude.{◌≡◌};
 
 use grammar::Fields;
 use refusal::Refusal;
@@ -10,7 +10,7 @@ use supply::{Bottom, Named, Share, Timetable, Whole};
 
 // What stands below a share: the whole processor or a timetable.
 fn below(fields: Fields) -> Result<Bottom, Refusal>
-    ensures { Answered result (timetable_check fields ∷ []) (λ b. means.bottom b ≡ bottom_of fields) }
+    ensures { Answered result (bottom_checks fields) (λ b. means.bottom b ≡ bottom_of fields) }
 {
     if fields.length == 0 && fields.word == 0 {
         return Ok(Bottom::Whole(Whole));

@@ -6,7 +6,7 @@ use lib.Pow.{mod-pow-add}
 use native.Mathlib.Nat.{mod-one, div-eq_of_lt}
 use Rattle.std.proofs.lemmas.Nat.{one_shl}
 use Rattle.std.proofs.lemmas.Bool.{eqb-false, cases_lt}
-use Rattle.supply.specs.Rows.{from_start, from_within}
+use Rattle.supply.specs.Rows.{from_start, from_within, timetable_bounds}
 use Rattle.supply.specs.Row.{upto, from}
 use Rattle.supply.specs.Timetable.{bits, LawfulTimetable}
 
@@ -36,11 +36,12 @@ masked word k small = ap (λ x. bit_and word (x - 1)) (one_shl k 64 small) ∙ a
 -- whole turns by the ones of the word, and the slots left over by the ones of its masked bits; together at most x
 pub before_by_ones : (length word x turn : ℕ) → LawfulTimetable length word → turn ≡ length → (x / turn * ones word + ones (bit_and word ((1 * 2 ^ (x % turn)) % 2 ^ 64 - 1)) ≡ from (bits length word) 0 x) × (from (bits length word) 0 x ≤ x)
 before_by_ones length word x turn lawful same =
-    let rest : x % length < length = mod-lt x lawful.0 in
+    let bounds = timetable_bounds length word lawful in
+    let rest : x % length < length = mod-lt x bounds.0 in
     let left : ones (bit_and word ((1 * 2 ^ (x % length)) % 2 ^ 64 - 1)) ≡ upto (bits length word).given (x % length) = ap ones (masked word (x % length) (omega arith)) ∙ sym (ones_upto length word (x % length)) in
-    let whole : ones word ≡ upto (bits length word).given length = ap ones (sym (mod-eq_of_lt lawful.3)) ∙ sym (ones_upto length word length) in
+    let whole : ones word ≡ upto (bits length word).given length = ap ones (sym (mod-eq_of_lt bounds.3)) ∙ sym (ones_upto length word length) in
     let turns : x / length * ones word ≡ x / length * upto (bits length word).given length = ap (λ y. x / length * y) whole in
-    rw same (omega (arith, from_start (bits length word) x lawful.0), from_within (bits length word) 0 x)
+    rw same (omega (arith, from_start (bits length word) x bounds.0), from_within (bits length word) 0 x)
 
 -- a word has a bit from k upward where 2 ^ k goes into it
 pub some_above : (word k : ℕ) → eqb (word / 2 ^ k) 0 ≡ false → 2 ^ k ≤ word

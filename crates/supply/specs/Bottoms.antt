@@ -1,10 +1,9 @@
 -- The laws of the supplies that an office can name, case by case.
 -- Lemmas: they stand in specs/ since the laws of an `impl` cite them, and nobody has to believe them.
 use Rattle.supply.specs.Piles.{share_laws}
-use Rattle.supply.specs.Rows.{repeating_lawful}
+use Rattle.supply.specs.Rows.{timetable_laws}
 use Rattle.supply.specs.Meaning.{Lawful}
 use Rattle.supply.specs.Named.{bottom, named}
-use Rattle.supply.specs.Timetable.{bits}
 use Rattle.supply.specs.Whole.{whole}
 use Rattle.supply.specs.declared.named.Bottom as b
 use Rattle.supply.specs.declared.named.Bottom.{Bottom}
@@ -22,7 +21,7 @@ whole_lawful = record {
 
 pub bottom_lawful : (below : Bottom) → Lawful (bottom below)
 bottom_lawful (b.TheVariants.Whole w) = whole_lawful
-bottom_lawful (b.TheVariants.Timetable t) = repeating_lawful (bits t.length t.word) t.lawful.0
+bottom_lawful (b.TheVariants.Timetable t) = timetable_laws t.length t.word t.lawful
 
 pub named_lawful : (s : Named) → Lawful (named s)
 named_lawful (n.TheVariants.Plain below) = bottom_lawful below

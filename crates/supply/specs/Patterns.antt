@@ -16,13 +16,20 @@ module _ (S F : ℕ) where
   taken_upto zero = omega arith
   taken_upto (suc n) = let below = taken_upto n in grind arith
 
+-- what a lawful pattern says of its numbers
+pub pattern_bounds : (S F : ℕ) → LawfulPattern S F → (1 ≤ S) × (S ≤ F) × (F ≤ 64)
+pattern_bounds S F lawful = grind arith
+
 module _ (S F : ℕ) (lawful : LawfulPattern S F) where
+  bounds : (1 ≤ S) × (S ≤ F) × (F ≤ 64)
+  bounds = pattern_bounds S F lawful
+
   turn_taken : upto (pattern S F).given F ≡ S
-  turn_taken = omega (arith, taken_upto S F F)
+  turn_taken = omega (arith, bounds, taken_upto S F F)
 
   -- whole turns, and the slots left over
   pub taken_before : (x : ℕ) → from (pattern S F) 0 x ≡ x / F * S + min (x % F) S
-  taken_before x = omega (arith, from_start (pattern S F) x (omega arith), taken_upto S F (x % F), ap (λ y. x / F * y) turn_taken)
+  taken_before x = omega (arith, from_start (pattern S F) x (omega (arith, bounds)), taken_upto S F (x % F), ap (λ y. x / F * y) turn_taken)
 
   -- the same at every start
   turns_taken : (start x : ℕ) → from (pattern S F) start x ≡ x / F * S + from (pattern S F) start (x % F)
@@ -61,24 +68,24 @@ module _ (S F : ℕ) (lawful : LawfulPattern S F) where
   part_worst x within =
       ⊎_elim
       (λ (less : S < F). rw (mod-eq_of_lt less) (⊎_elim (λ (first : S + x < F). omega (arith, part_in_first S x first)) (λ (second : F ≤ S + x). omega (arith, part_in_second S x less within second)) (cases_lt (S + x) F)))
-      (λ (all : F ≤ S). let same : S ≡ F = omega arith in let none : S % F ≡ 0 = ap (λ y. y % F) same ∙ mod_self F in rw none (omega (arith, first_turn x within)))
+      (λ (all : F ≤ S). let same : S ≡ F = omega (arith, bounds) in let none : S % F ≡ 0 = ap (λ y. y % F) same ∙ mod_self F in rw none (omega (arith, first_turn x within)))
       (cases_lt S F)
 
   -- the pattern takes at least `sure` of any x slots
   sure_taken : (start x : ℕ) → start < F → sure S F x ≤ from (pattern S F) start x
-  sure_taken start x there = omega (arith, turns_taken start x, part_taken start (x % F) there (mod-lt x (omega arith)))
+  sure_taken start x there = omega (arith, turns_taken start x, part_taken start (x % F) there (mod-lt x (omega (arith, bounds))))
 
   -- and from slot S mod F on no more
   pub sure_attained : (x : ℕ) → from (pattern S F) (S % F) x ≡ sure S F x
-  sure_attained x = omega (arith, turns_taken (S % F) x, part_worst (x % F) (mod-lt x (omega arith)))
+  sure_attained x = omega (arith, turns_taken (S % F) x, part_worst (x % F) (mod-lt x (omega (arith, bounds))))
 
   pub worst_start : S % F < F
-  worst_start = mod-lt S (omega arith)
+  worst_start = mod-lt S (omega (arith, bounds))
 
   -- so `sure` is the minimum over the starts
   pub sure_fewest : (x : ℕ) → (repeating (pattern S F)).least x ≡ sure S F x
   sure_fewest x =
-      let some : 0 < F = omega arith in
+      let some : 0 < F = omega (arith, bounds) in
       let lowest = ((repeating_lawful (pattern S F) some).attained x).0 in
       omega (arith, sure_taken ((repeating (pattern S F)).worst x) x lowest, (row_laws (pattern S F) some).fewest x (S % F) worst_start, sure_attained x)
 

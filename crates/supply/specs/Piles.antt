@@ -1,17 +1,17 @@
 -- A share over a lawful supply is lawful: from the laws of the supply below and of the pattern.
 -- Lemmas: they stand in specs/ since the laws of an `impl` cite them, and nobody has to believe them.
-use Rattle.std.specs.Prelude.{◌≡◌, ℕ, suc, ◌+◌, ◌-◌, ◌*◌, ◌/◌, ◌%◌, ◌<◌, ◌≤◌, nat_le}
+use Rattle.std.specs.Prelude.{◌≡◌, ℕ, suc, ◌+◌, ◌-◌, ◌*◌, ◌/◌, ◌%◌, ◌<◌, ◌≤◌}
 use Rattle.std.proofs.Common.{ap, ◌∙◌, mod-lt, arith}
 use Rattle.std.proofs.Math.Nat.{mul-pos}
 use Rattle.std.proofs.lemmas.Nat.{mul-add-lt, div-mul-add, mod-mul-add}
 use Rattle.std.proofs.lemmas.Bool.{cond_both}
 use Rattle.supply.specs.Least.{counted_more}
-use Rattle.supply.specs.Patterns.{sure_attained, sure_fewest, worst_start}
+use Rattle.supply.specs.Patterns.{pattern_bounds, sure_attained, sure_fewest, worst_start}
 use Rattle.supply.specs.Rows.{from_window, upto_counting}
 use Rattle.supply.specs.Meaning.{Meaning, Counting, Counts, Windows, Attained, Lawful}
 use Rattle.supply.specs.Row.{from}
 use Rattle.supply.specs.declared.pattern.Pattern.{Pattern}
-use Rattle.supply.specs.Share.{pattern, shared, share, most_phases, LawfulPattern}
+use Rattle.supply.specs.Share.{pattern, shared, share, few_phases, LawfulPattern}
 
 -- more slots are counted no lower
 counted_up : (f : ℕ → ℕ) → Counting f → (x y : ℕ) → x ≤ y → f x ≤ f y
@@ -40,7 +40,7 @@ module _ (m : Meaning) (law : Lawful m) (S F : ℕ) (lawful : LawfulPattern S F)
 
   shared_counts : Counts (shared S F m)
   shared_counts = (
-    mul-pos some_below (omega arith),
+    mul-pos some_below (omega (arith, pattern_bounds S F lawful)),
     λ p there. counting_through (from (pattern S F) (p / m.phases)) (m.count (p % m.phases)) (upto_counting _) (law.counts.1 (p % m.phases) (phase_below p)),
   )
 
@@ -55,7 +55,7 @@ module _ (m : Meaning) (law : Lawful m) (S F : ℕ) (lawful : LawfulPattern S F)
       omega (
         arith,
         counted_up (from (pattern S F) r) (upto_counting _) (x + y) (m.count q (a + n)) held,
-        from_window (pattern S F) (omega arith) r x y,
+        from_window (pattern S F) (omega (arith, pattern_bounds S F lawful)) r x y,
         sure_fewest S F lawful y,
       )
 
@@ -76,7 +76,7 @@ module _ (m : Meaning) (law : Lawful m) (S F : ℕ) (lawful : LawfulPattern S F)
   shared_lawful = record { counts = shared_counts; windows = shared_windows; attained = shared_attained }
 
   pub share_lawful : Lawful (share S F m)
-  share_lawful = cond_both (nat_le (m.phases * F) most_phases) (shared S F m) m Lawful (λ few. shared_lawful) (λ many. law)
+  share_lawful = cond_both (few_phases m F) (shared S F m) m Lawful (λ few. shared_lawful) (λ many. law)
 
 -- the same, of the pattern that a share holds
 pub share_laws : {m : Meaning} → Lawful m → (p : Pattern) → Lawful (share p.given p.of m)

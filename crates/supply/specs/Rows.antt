@@ -1,12 +1,13 @@
 -- A row that repeats for ever obeys the laws of a supply, and whole turns add the same at every start: from the definitions alone.
 -- Lemmas: they stand in specs/ since the laws of an `impl` cite them, and nobody has to believe them.
-use Rattle.std.specs.Prelude.{◌≡◌, ℕ, zero, suc, ◌+◌, ◌*◌, ◌/◌, ◌%◌, ◌<◌, ◌≤◌, Bool, refl}
+use Rattle.std.specs.Prelude.{◌≡◌, ℕ, zero, suc, ◌+◌, ◌*◌, ◌/◌, ◌%◌, ◌^◌, ◌<◌, ◌≤◌, Bool, refl}
 use Rattle.std.proofs.Common.{⊎_elim, sym, ap, ◌∙◌, add-zero, add-suc, add_assoc, zero-add, add_comm, mod-lt, mod-eq_of_lt, arith}
 use Rattle.std.proofs.Math.Nat.{mod-add-mod, add-mod_right, mod-add-div'}
 use Rattle.std.proofs.lemmas.Bool.{cases_lt}
 use Rattle.supply.specs.Least.{counted_within}
 use Rattle.supply.specs.Meaning.{Counting, Lawful}
 use Rattle.supply.specs.Row.{Row, upto, from, lowest, repeating, RowLaws}
+use Rattle.supply.specs.Timetable.{timetable, bits, LawfulTimetable}
 
 -- the given slots among the first n are counted
 pub upto_counting : (given : ℕ → Bool) → Counting (upto given)
@@ -131,3 +132,10 @@ module _ (r : Row) where
         fewest = λ n p there. lowest_least (λ q. from r q n) r.turn p there;
         first = λ n p before. lowest_first (λ q. from r q n) r.turn p before;
       }
+
+-- what a lawful timetable says of its numbers
+pub timetable_bounds : (length word : ℕ) → LawfulTimetable length word → (1 ≤ length) × (length ≤ 64) × (0 < word) × (word < 2 ^ length)
+timetable_bounds length word lawful = grind arith
+
+pub timetable_laws : (length word : ℕ) → LawfulTimetable length word → Lawful (timetable length word)
+timetable_laws length word lawful = repeating_lawful (bits length word) (timetable_bounds length word lawful).0

@@ -1,5 +1,5 @@
 -- Shares: S in F of the slots that a supply below gives. Assumes nothing.
-use Rattle.std.specs.Prelude.{◌≡◌, ℕ, ◌+◌, ◌-◌, ◌*◌, ◌/◌, ◌%◌, ◌<◌, ◌≤◌, cond, nat_le, nat_lt}
+use Rattle.std.specs.Prelude.{◌≡◌, ℕ, ◌+◌, ◌-◌, ◌*◌, ◌/◌, ◌%◌, ◌<◌, Bool, true, cond, ◌&&◌, nat_le, nat_lt}
 use Rattle.supply.specs.Meaning.{Meaning}
 use Rattle.supply.specs.Row.{Row, from, repeating}
 
@@ -20,13 +20,27 @@ shared S F m = record { phases = m.phases * F; count = λ p n. from (pattern S F
 abbrev pub most_phases : ℕ
 most_phases = 1000000
 
+-- A share over m with F slots in a turn has no more phases than that.
+abbrev pub few_phases : Meaning → ℕ → Bool
+few_phases m F = nat_le (m.phases * F) most_phases
+
 -- What a share means: one that would have too many phases has the meaning of the supply below.
 abbrev pub share : ℕ → ℕ → Meaning → Meaning
-share S F m = cond (nat_le (m.phases * F) most_phases) (shared S F m) m
+share S F m = cond (few_phases m F) (shared S F m) m
 
 -- A pattern of S in F is lawful when 1 ≤ S ≤ F ≤ 64.
+abbrev pub lawful_pattern : ℕ → ℕ → Bool
+lawful_pattern S F = nat_le 1 S && nat_le S F && nat_le F 64
+
 abbrev pub LawfulPattern : ℕ → ℕ → Type 0
-LawfulPattern S F = (1 ≤ S) × (S ≤ F) × (F ≤ 64)
+LawfulPattern S F = lawful_pattern S F ≡ true
+
+-- A share of S in F may be made over m when its pattern is lawful and its phases are few.
+abbrev pub lawful_share : Meaning → ℕ → ℕ → Bool
+lawful_share m S F = lawful_pattern S F && few_phases m F
+
+abbrev pub LawfulShare : Meaning → ℕ → ℕ → Type 0
+LawfulShare m S F = lawful_share m S F ≡ true
 
 -- The pattern as a row that repeats: `sure` is its minimum over the starts, and slot S mod F is a start that attains it.
 pub record PatternLaws (S F : ℕ) : Type 0 where

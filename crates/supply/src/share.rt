@@ -1,5 +1,7 @@
-ghost use Rattle.std.specs.Prelude.{◌≡◌, ◌*◌, ◌<◌, ◌≤◌, MatchOption};
-ghost use Rattle.supply.specs.Making.{MakesShare, no_share};
+ghost use Rattle.refusal.specs.Answers.{Answered};
+ghost use Rattle.std.specs.Prelude.{◌≡◌, ◌*◌, ◌<◌, ◌≤◌, true, [], ◌∷◌, IfErr, MatchOption};
+ghost use Rattle.refusal.specs.declared.reason.Reason.TheVariants.{ShareUnlawful};
+ghost use Rattle.supply.specs.Making.{by_supply, share_check, refusal_in};
 ghost use Rattle.supply.specs.Piles.{share_laws};
 ghost use Rattle.supply.specs.Share.{most_phases, share};
 
@@ -42,7 +44,7 @@ fn piled_phases(below: u32, turn: u32) -> Option<u32>
 
 // The refusal of a share over a supply.
 fn unlawful<B>(below: B) -> ShareRefused<B>
-    ensures refusal { result.refusal ≡ no_share }
+    ensures refusal { result.refusal ≡ by_supply ShareUnlawful }
     ensures below { result.below ≡ below }
 {
     ShareRefused {
@@ -54,7 +56,8 @@ fn unlawful<B>(below: B) -> ShareRefused<B>
 impl<B: Supply> Share<B> {
     // A share of s in f over a supply, or a refusal that hands the supply back.
     pub fn new(below: B, s: u8, f: u8) -> Result<Share<B>, ShareRefused<B>>
-        ensures { MakesShare (B.meaning below) below s f result }
+        ensures made_or_refused_by_checks { Answered (refusal_in result) (share_check (B.meaning below) s f ∷ []) (λ share. (share.below ≡ below) × (share.pattern.given ≡ s) × (share.pattern.of ≡ f)) }
+        ensures refusal_hands_supply_back { IfErr result (λ e. e.below ≡ below) }
     {
         match (
             piled_phases(below.phases(), u32::from(f)),

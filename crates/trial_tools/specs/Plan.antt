@@ -1,10 +1,9 @@
 -- The supply that the numbers of a plan name. Assumes nothing.
-use Rattle.std.specs.Prelude.{◌≡◌, ◌≢◌, cond, ◌==◌, MatchOption, Option}
-use Rattle.supply.specs.Making.{LawfulShare}
+use Rattle.std.specs.Prelude.{◌≡◌, Bool, true, false, cond, ◌&&◌, ◌||◌, ◌==◌, MatchOption, Option}
 use Rattle.supply.specs.Meaning.{Meaning}
 use Rattle.supply.specs.Named.{bottom, named}
-use Rattle.supply.specs.Share.{share}
-use Rattle.supply.specs.Timetable.{LawfulTimetable, timetable}
+use Rattle.supply.specs.Share.{share, lawful_share}
+use Rattle.supply.specs.Timetable.{lawful_timetable, timetable}
 use Rattle.supply.specs.Whole.{whole}
 use Rattle.supply.specs.declared.named.Bottom.{Bottom}
 use Rattle.supply.specs.declared.named.Named.{Named}
@@ -18,16 +17,16 @@ row_of p = cond (p.length == 1) whole (timetable p.length p.word)
 abbrev pub meaning_of : Plan → Meaning
 meaning_of p = cond (p.turn == 1) (row_of p) (share p.taken p.turn (row_of p))
 
-abbrev pub LawfulRow : Plan → Type 0
-LawfulRow p = p.length ≢ 1 → LawfulTimetable p.length p.word
+abbrev pub lawful_row : Plan → Bool
+lawful_row p = p.length == 1 || lawful_timetable p.length p.word
 
-abbrev pub LawfulPlan : Plan → Type 0
-LawfulPlan p = LawfulRow p × (p.turn ≢ 1 → LawfulShare (row_of p) p.taken p.turn)
+abbrev pub lawful_plan : Plan → Bool
+lawful_plan p = lawful_row p && (p.turn == 1 || lawful_share (row_of p) p.taken p.turn)
 
 -- What is made of a row: a supply of its meaning where it is lawful, and else nothing.
 abbrev pub MakesRow : Plan → Option Bottom → Type 0
-MakesRow p made = MatchOption made (LawfulRow p → ⊥) (λ below. LawfulRow p × (bottom below ≡ row_of p))
+MakesRow p made = MatchOption made (lawful_row p ≡ false) (λ below. (lawful_row p ≡ true) × (bottom below ≡ row_of p))
 
 -- What is made of a plan: a supply of its meaning where it is lawful, and else nothing.
 abbrev pub MakesPlan : Plan → Option Named → Type 0
-MakesPlan p made = MatchOption made (LawfulPlan p → ⊥) (λ supply. LawfulPlan p × (named supply ≡ meaning_of p))
+MakesPlan p made = MatchOption made (lawful_plan p ≡ false) (λ supply. (lawful_plan p ≡ true) × (named supply ≡ meaning_of p))

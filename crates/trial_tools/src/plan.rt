@@ -49,8 +49,6 @@ impl Plan {
         if self.turn == 1 {
             return Some(Named::Plain(below));
         }
-        Share::new(below, self.taken, self.turn)
-            .ok()
-            .map(Named::Shared)
+        Some(Named::Shared(Share::new(below, self.taken, self.turn).ok()?))
     }
 }

@@ -16,8 +16,8 @@ use Rattle.refusal.specs.declared.reason.Reason.TheVariants.{SupplyNotCovered}
 use Rattle.roster.specs.Working.{checks}
 use Rattle.run.specs.Slots.{given_in, schedule}
 use Rattle.run.specs.Timed.{horizon}
-use Rattle.supply.specs.Making.{LawfulShare}
 use Rattle.supply.specs.Meaning.{Meaning}
+use Rattle.supply.specs.Share.{LawfulShare}
 use Rattle.supply.specs.Timetable.{LawfulTimetable}
 use Rattle.supply.specs.Whole.{whole}
 use Rattle.worked.specs.Given.{three_lines, close_lines, loose_lines, three_watched, close_watched, loose_watched, cut_62, cut_19, cut_25, cut_25_badly, enrols, two_thirds, half, quarter, overloaded_lines, witness_jobs, witness_timed, witness_slots}

@@ -1,5 +1,6 @@
-ghost use Rattle.std.specs.Prelude.{◌≡◌, ◌^◌, ◌<◌, ◌≤◌, true, false};
-ghost use Rattle.supply.specs.Making.{MakesTimetable};
+ghost use Rattle.refusal.specs.Answers.{Answered};
+ghost use Rattle.std.specs.Prelude.{◌≡◌, ◌^◌, ◌<◌, ◌≤◌, true, false, [], ◌∷◌};
+ghost use Rattle.supply.specs.Making.{timetable_check};
 
 use crate::timetable::Timetable;
 use refusal::{Layer, Reason, Refusal};
@@ -16,7 +17,7 @@ fn within(length: u8, word: u64) -> bool
 impl Timetable {
     // The timetable of a length and a word, or a refusal where they make none.
     pub fn new(length: u8, word: u64) -> Result<Timetable, Refusal>
-        ensures { MakesTimetable length word result }
+        ensures made_or_refused_by_checks { Answered result (timetable_check length word ∷ []) (λ t. (t.length ≡ length) × (t.word ≡ word)) }
     {
         if length < 1 || length > 64 || word == 0 || !within(length, word) {
             return Err(Refusal::by(Layer::Supply, Reason::TimetableUnlawful));

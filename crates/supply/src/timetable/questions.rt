@@ -1,7 +1,7 @@
 ghost use Rattle.std.specs.Prelude.{◌≡◌, ◌<◌};
 ghost use Rattle.supply.specs.Row.{from};
 ghost use Rattle.supply.specs.Timetable.{bits, timetable};
-ghost use Rattle.supply.specs.Rows.{repeating_lawful};
+ghost use Rattle.supply.specs.Rows.{timetable_laws};
 
 use crate::supply::Supply;
 use crate::timetable::Timetable;
@@ -29,11 +29,11 @@ impl Timetable {
 impl Supply for Timetable {
     ghost meaning = { λ t. timetable t.length t.word };
 
-    ghost counts = { λ t. (repeating_lawful (bits t.length t.word) t.lawful.0).counts };
+    ghost counts = { λ t. (timetable_laws t.length t.word t.lawful).counts };
 
-    ghost windows = { λ t. (repeating_lawful (bits t.length t.word) t.lawful.0).windows };
+    ghost windows = { λ t. (timetable_laws t.length t.word t.lawful).windows };
 
-    ghost attained = { λ t. (repeating_lawful (bits t.length t.word) t.lawful.0).attained };
+    ghost attained = { λ t. (timetable_laws t.length t.word t.lawful).attained };
 
     fn phases(&self) -> u32 {
         u32::from(self.length)
