@@ -22,7 +22,7 @@ pub struct Refusal {
 impl Refusal {
     // The refusal of a layer for a reason, at place 0.
     pub fn by(layer: Layer, reason: Reason) -> Refusal
-        ensures { result ≡ record { reason = reason; layer = layer; place = 0 } }
+        ensures layer_and_reason_at_place_0 { result ≡ record { reason = reason; layer = layer; place = 0 } }
     {
         Refusal {
             reason,
@@ -33,7 +33,7 @@ impl Refusal {
 
     // The same refusal at another place.
     pub fn at(self, place: u32) -> Refusal
-        ensures { result ≡ record { reason = self.reason; layer = self.layer; place = place } }
+        ensures place_alone_is_new { result ≡ record { reason = self.reason; layer = self.layer; place = place } }
     {
         Refusal { place, ..self }
     }

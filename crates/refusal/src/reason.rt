@@ -31,7 +31,7 @@ pub enum Reason {
 impl Reason {
     // The reason's number in the table.
     pub fn number(self) -> u8
-        ensures { result ≡ number_of self }
+        ensures number_from_the_table { result ≡ number_of self }
     {
         self as u8
     }

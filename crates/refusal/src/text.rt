@@ -8,8 +8,8 @@ use std::fmt;
 impl Layer {
     // The word for a layer.
     pub fn word(self) -> &'static str
-        ensures word { result.now ≡ layer_word self }
-        ensures brief { length result.now ≤ 6 }
+        ensures word_from_the_table { result.now ≡ layer_word self }
+        ensures at_most_6_bytes { length result.now ≤ 6 }
     {
         match self {
             Layer::Supply => "supply",

@@ -34,7 +34,7 @@ impl<T, const N: usize> Model for ShortList<T, N> {
 impl<T: Copy, const N: usize> ShortList<T, N> {
     // The list of nothing. The blank fills the places that hold no value.
     pub fn none(blank: T) -> ShortList<T, N>
-        ensures { result.items ≡ [] }
+        ensures holds_nothing { result.items ≡ [] }
     {
         ShortList {
             places: [blank; N],
@@ -44,30 +44,30 @@ impl<T: Copy, const N: usize> ShortList<T, N> {
 
     // The values, in their order.
     pub fn as_slice(&self) -> &[T]
-        ensures value { result.now ≡ self.now.items }
-        ensures fits { length result.now ≤ N }
+        ensures shows_all_items { result.now ≡ self.now.items }
+        ensures within_capacity { length result.now ≤ N }
     {
         &self.places[..self.len]
     }
 
     // How many values there are.
     pub fn len(&self) -> usize
-        ensures value { result ≡ length self.now.items }
-        ensures fits { result ≤ N }
+        ensures counts_items { result ≡ length self.now.items }
+        ensures within_capacity { result ≤ N }
     {
         self.as_slice().len()
     }
 
     // Whether there is no room for one more.
     pub fn is_full(&self) -> bool
-        ensures { result ≡ nat_le N (length self.now.items) }
+        ensures full_at_capacity { result ≡ nat_le N (length self.now.items) }
     {
         self.len >= N
     }
 
     // One value more at the end; nothing changes where there is no room.
     pub fn push(&mut self, value: T) -> Result<(), Full>
-        ensures { MatchResult result (λ _. (length self.old.items < N) × (self.new.items ≡ self.old.items ++ (value ∷ []))) (λ _. (N ≤ length self.old.items) × (self.new ≡ self.old)) }
+        ensures appends_unless_full { MatchResult result (λ _. (length self.old.items < N) × (self.new.items ≡ self.old.items ++ (value ∷ []))) (λ _. (N ≤ length self.old.items) × (self.new ≡ self.old)) }
     {
         if self.is_full() {
             return Err(Full);
@@ -79,7 +79,7 @@ impl<T: Copy, const N: usize> ShortList<T, N> {
 
     // The values of a slice more at the end; nothing changes where there is no room for all.
     pub fn extend_from_slice(&mut self, values: &[T]) -> Result<(), Full>
-        ensures { MatchResult result (λ _. self.new.items ≡ self.old.items ++ values.now) (λ _. (N < length self.old.items + length values.now) × (self.new ≡ self.old)) }
+        ensures appends_all_or_nothing { MatchResult result (λ _. self.new.items ≡ self.old.items ++ values.now) (λ _. (N < length self.old.items + length values.now) × (self.new ≡ self.old)) }
     {
         if values.len() > N - self.len {
             return Err(Full);
@@ -93,8 +93,8 @@ impl<T: Copy, const N: usize> ShortList<T, N> {
 
     // Another value at a place; the value that stood there, if there is one.
     pub fn replace(&mut self, at: usize, value: T) -> Option<T>
-        ensures old { result ≡ slice_get self.old.items at }
-        ensures new { self.new.items ≡ slice_set self.old.items at value }
+        ensures answers_item_before { result ≡ slice_get self.old.items at }
+        ensures changes_that_place_alone { self.new.items ≡ slice_set self.old.items at value }
     {
         if at >= self.len {
             return None;
@@ -106,8 +106,8 @@ impl<T: Copy, const N: usize> ShortList<T, N> {
 
     // The value of a place leaves, and the later ones move down; nothing changes where there is none.
     pub fn remove(&mut self, at: usize) -> Option<T>
-        ensures old { result ≡ slice_get self.old.items at }
-        ensures new { self.new.items ≡ remove self.old.items at }
+        ensures answers_item_removed { result ≡ slice_get self.old.items at }
+        ensures closes_the_gap { self.new.items ≡ remove self.old.items at }
     {
         if at >= self.len {
             return None;
@@ -122,7 +122,7 @@ impl<T: Copy, const N: usize> ShortList<T, N> {
 impl<T: Copy + PartialEq, const N: usize> ShortList<T, N> {
     // The values other than one, in their order.
     pub fn without(&self, value: T) -> ShortList<T, N>
-        ensures { result.items ≡ filter (λ x. not (T.eq x value)) self.now.items }
+        ensures drops_that_value_alone { result.items ≡ filter (λ x. not (T.eq x value)) self.now.items }
     {
         // The number of those kept stands beside the places, and goes into the list only at the end.
         let mut places = self.places;

@@ -5,7 +5,7 @@ use Rattle.std.proofs.Common.{length, ap, rules, arith}
 pub invariant_of-result : goal.invariant_of-result
 invariant_of-result c = record {
   within = search rules;
-  lawful = λ i l. absurd (omega (arith, ap length c.none.ensures));
+  lawful = λ i l. absurd (omega (arith, ap length c.none.ensures.holds_nothing));
   brief = brief_none _ (search rules);
   few = few_none _ (search rules);
 }

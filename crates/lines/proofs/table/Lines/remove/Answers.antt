@@ -16,7 +16,7 @@ invariant_of-rest c =
     let moved : c.remove.new.self.items ≡ remove (rows_of self) number = search rules in
     let fewer = fewer_laws (remove (rows_of self) number) (rows_of self) (removed_among (rows_of self) number there) self.lawful in
     record {
-      within = omega (arith, ap length c.remove.ensures.new, length-remove (rows_of self) number there, self.within);
+      within = omega (arith, ap length c.remove.ensures.closes_the_gap, length-remove (rows_of self) number there, self.within);
       lawful = subst (λ rows. AllLawful rows) (sym moved) (lawful_removed (rows_of self) number there self.lawful);
       brief = omega (arith, ap hyperperiod moved, fewer.briefer, self.brief);
       few = omega (arith, ap (λ rows. length (full_list rows)) moved, fewer.no_longer, self.few);

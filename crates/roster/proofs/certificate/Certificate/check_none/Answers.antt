@@ -27,4 +27,4 @@ pub returns-in-Some : goal.returns-in-Some
 returns-in-Some g c fails computes =
     let cites = cites_of c.args.self.now.bytes.now in
     let h = IsFirst-from_position c.position.new.self c.args.bad (Some c.in-Some.k) (λ x. fails x ≡ true) (λ x. fails x ≡ false) c.in-Some.ensures.ran (YieldsList-from_first cite_of cites_left cites c.cites.ensures) (λ x q k. sym (computes x true ((g.met.F.FnMut.1.post_iff _ _ _).1 (q, record { met = k.met })))) (λ x q k. (g.met.F.Fn.1.step_stays _ _ _ _ (record { met = k.met }), sym (computes x false ((g.met.F.FnMut.1.post_iff _ _ _).1 (q, record { met = k.met }))))) in
-    first_bad fails c.args.reason 1 cites c.in-Some.k h.0 h.1 h.2 ∙ ap Some (refused_at _ _ c.args.reason (1 + c.in-Some.k) c.by.ensures c.at.ensures)
+    first_bad fails c.args.reason 1 cites c.in-Some.k h.0 h.1 h.2 ∙ ap Some (refused_at _ _ c.args.reason (1 + c.in-Some.k) c.by.ensures.layer_and_reason_at_place_0 c.at.ensures.place_alone_is_new)

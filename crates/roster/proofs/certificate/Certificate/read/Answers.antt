@@ -12,7 +12,7 @@ returns-then-bytes-ne0 c =
     let low = c.if-divisor-lt1.false in
     let high = c.if-divisor-gt1000.false in
     let fine : outside 1 1000 c.args.divisor ≡ false = grind arith in
-    cond-false (outside 1 1000 c.args.divisor) _ _ fine ∙ cond-true _ _ _ (not_few c.args.bytes.now c.then-bytes-ne0.either) ∙ ap Some (sym c.by-out_of_range.ensures)
+    cond-false (outside 1 1000 c.args.divisor) _ _ fine ∙ cond-true _ _ _ (not_few c.args.bytes.now c.then-bytes-ne0.either) ∙ ap Some (sym c.by-out_of_range.ensures.layer_and_reason_at_place_0)
 
 pub returns-in_err-check_none : goal.returns-in_err-check_none
 returns-in_err-check_none c =

@@ -32,7 +32,7 @@ returns-then-not-contains g c =
     let q = c.args.divisor in
     let cites = cites_of c.args.cites.now in
     let off = decided false d W c.if-not-contains.ensures in
-    past_figures m rows W d q cites c.in_ok-certificate.ensures.0 ∙ cond-true (not (listed d W)) _ _ (ap not off) ∙ ap Some (sym c.by.ensures)
+    past_figures m rows W d q cites c.in_ok-certificate.ensures.0 ∙ cond-true (not (listed d W)) _ _ (ap not off) ∙ ap Some (sym c.by.ensures.layer_and_reason_at_place_0)
 
 pub returns-in_err-check_cited : goal.returns-in_err-check_cited
 returns-in_err-check_cited g c =

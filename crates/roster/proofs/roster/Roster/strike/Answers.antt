@@ -13,8 +13,8 @@ returns-in_err-lines g c =
     let p = err_from_is_err_and c.from_residual.result c.from_residual.ensures.1 in
     let none = missing _ _ c.remove.result c.at-missing.result c.in_err-lines.field-0.0 c.remove.ensures c.in_err-lines.ensures.value in
     let gone : length (rows_in c.args.self.now) ≤ c.args.number = omega (arith, none.0, c.from-2.ensures) in
-    let by = c.by.ensures in
-    let at = c.at-missing.ensures in
+    let by = c.by.ensures.layer_and_reason_at_place_0 in
+    let at = c.at-missing.ensures.place_alone_is_new in
     let place = c.from.ensures in
     let why = none.1 in
     rw (p.1, p.2) (works_by _ c.args.self.now c.args.self.now (strike c.args.number) (Err c.in_err-lines.field-0.0) _ (grind arith) refl refl refl)

@@ -14,4 +14,4 @@ unwrap-requires c =
     let more = length-flat_map-take now pieces i (record { ref_ptr = (0, 0); now = [] }) c.loop-piece-test.true in
     let long = ap length c.loop-piece.invariant in
     let sum = length-append (drafted c.args.self.now) (flat_map now (take i pieces)) in
-    never_refused _ _ c.extend_from_slice.result c.extend_from_slice.ensures (λ e full. omega (arith, full.0, more, long, sum, c.requires))
+    never_refused _ _ c.extend_from_slice.result c.extend_from_slice.ensures.appends_all_or_nothing (λ e full. omega (arith, full.0, more, long, sum, c.requires))

@@ -4,23 +4,23 @@ use Rattle.std.proofs.Common.{arith}
 use Rattle.std.proofs.Math.Seq.{take-set-lt}
 use Rattle.std.proofs.lemmas.Grind.{common_steps}
 
-pub returns-then-at-self-clause-old : goal.returns-then-at-self-clause-old
-returns-then-at-self-clause-old g c =
+pub returns-then-at-self-clause-answers_item_before : goal.returns-then-at-self-clause-answers_item_before
+returns-then-at-self-clause-answers_item_before g c =
     let inside = c.self.inside in
     rw (← c.self.view_is) (stands_none inside.places inside.len c.args.at (omega arith) (omega arith))
 
-pub returns-then-at-self-clause-new : goal.returns-then-at-self-clause-new
-returns-then-at-self-clause-new g c = grind (arith, common_steps)
+pub returns-then-at-self-clause-changes_that_place_alone : goal.returns-then-at-self-clause-changes_that_place_alone
+returns-then-at-self-clause-changes_that_place_alone g c = grind (arith, common_steps)
 
 pub offset_bounds-self-inside-at : goal.offset_bounds-self-inside-at
 offset_bounds-self-inside-at g c = grind (arith, common_steps)
 
-pub returns-clause-old : goal.returns-clause-old
-returns-clause-old g c =
+pub returns-clause-answers_item_before : goal.returns-clause-answers_item_before
+returns-clause-answers_item_before g c =
     let inside = c.self.inside in
     rw (← c.self.view_is) (stands inside.places inside.len c.args.at (omega arith) _ (omega arith))
 
-pub returns-clause-new : goal.returns-clause-new
-returns-clause-new g c =
+pub returns-clause-changes_that_place_alone : goal.returns-clause-changes_that_place_alone
+returns-clause-changes_that_place_alone g c =
     let inside = c.self.inside in
     rw (← c.self.view_is) (take-set-lt inside.len inside.places c.args.at c.args.value c.if-at-self.false)
