@@ -3,7 +3,7 @@
 use Rattle.std.specs.Prelude.{◌≡◌, ℕ, zero, suc, ◌+◌, ◌<◌, ◌≤◌}
 use Rattle.std.proofs.Common.{ap, arith}
 use native.Mathlib.Nat.{zero-add}
-use Rattle.supply.specs.Meaning.{Meaning, Counting, Lawful, LeastLaws}
+use Rattle.supply.specs.Meaning.{Meaning, Counting, Lawful}
 
 -- g never counts more slots than there are
 pub counted_within : (g : ℕ → ℕ) → Counting g → (n : ℕ) → g n ≤ n
@@ -28,9 +28,6 @@ module _ (m : Meaning) (law : Lawful m) where
   worst_counts : (n : ℕ) → Counting (m.count (m.worst n))
   worst_counts n = phase_counts (m.worst n) (worst_there n)
 
-  pub least_none : m.least 0 ≡ 0
-  least_none = omega (arith, (law.attained 0).1, (worst_counts 0).starts)
-
   pub least_bounded : (n : ℕ) → m.least n ≤ n
   least_bounded n = omega (arith, (law.attained n).1, counted_within (m.count (m.worst n)) (worst_counts n) n)
 
@@ -48,6 +45,3 @@ module _ (m : Meaning) (law : Lawful m) where
 
   pub least_monotone : (a n : ℕ) → m.least a ≤ m.least (a + n)
   least_monotone a n = omega (arith, least_superadditive a n)
-
-  pub least_laws : LeastLaws m
-  least_laws = record { none = least_none; bounded = least_bounded; monotone = least_monotone; superadditive = least_superadditive }

@@ -36,9 +36,12 @@ pub record Lawful (m : Meaning) : Type 0 where
   pub windows : Windows m
   pub attained : Attained m
 
--- What follows from the laws alone: n slots hold at most n, more slots hold no less, and windows add up.
-pub record LeastLaws (m : Meaning) : Type 0 where
-  pub none : m.least 0 ≡ 0
-  pub bounded : (n : ℕ) → m.least n ≤ n
-  pub monotone : (a n : ℕ) → m.least a ≤ m.least (a + n)
-  pub superadditive : (a n : ℕ) → m.least a + m.least n ≤ m.least (a + n)
+-- What follows from the laws alone: n slots hold at most n given ones, more slots hold no fewer, and windows add up.
+abbrev pub Bounded : Meaning → Type 0
+Bounded m = (n : ℕ) → m.least n ≤ n
+
+abbrev pub Monotone : Meaning → Type 0
+Monotone m = (a n : ℕ) → m.least a ≤ m.least (a + n)
+
+abbrev pub Superadditive : Meaning → Type 0
+Superadditive m = (a n : ℕ) → m.least a + m.least n ≤ m.least (a + n)

@@ -5,9 +5,9 @@ use Rattle.std.proofs.Common.{ap, ◌∙◌, ⊎_elim, mod-lt, mod-eq_of_lt}
 use Rattle.std.proofs.Math.Nat.{mod_self, mod-add-div'}
 use native.Mathlib.Omega.{arith}
 use Rattle.std.proofs.lemmas.Bool.{cases_lt}
-use Rattle.supply.specs.Rows.{from_difference, from_start, from_row, from_turns, repeating_lawful, row_laws}
+use Rattle.supply.specs.Rows.{from_difference, from_start, from_row, from_turns, repeating_lawful, worst_first}
 use Rattle.supply.specs.Row.{upto, from, repeating}
-use Rattle.supply.specs.Share.{pattern, sure, LawfulPattern, PatternLaws}
+use Rattle.supply.specs.Share.{pattern, sure, LawfulPattern}
 
 module _ (S F : ℕ) where
   -- of the first n slots of a turn the first S are taken
@@ -87,7 +87,4 @@ module _ (S F : ℕ) (lawful : LawfulPattern S F) where
   sure_fewest x =
       let some : 0 < F = omega (arith, bounds) in
       let lowest = ((repeating_lawful (pattern S F) some).attained x).0 in
-      omega (arith, sure_taken ((repeating (pattern S F)).worst x) x lowest, (row_laws (pattern S F) some).fewest x (S % F) worst_start, sure_attained x)
-
-  pub pattern_laws : PatternLaws S F
-  pattern_laws = record { fewest = sure_fewest; start = worst_start; attained = sure_attained }
+      omega (arith, sure_taken ((repeating (pattern S F)).worst x) x lowest, (worst_first (pattern S F) x (S % F)).0 worst_start, sure_attained x)

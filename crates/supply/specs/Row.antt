@@ -1,6 +1,6 @@
 -- Rows of slots that repeat for ever, as a supply: what a timetable and the pattern of a share have in common. Assumes nothing.
 use Rattle.std.specs.Prelude.{◌≡◌, ℕ, zero, suc, ◌+◌, ◌*◌, ◌%◌, ◌<◌, ◌≤◌, Bool, cond, nat_lt}
-use Rattle.supply.specs.Meaning.{Meaning, Lawful}
+use Rattle.supply.specs.Meaning.{Meaning}
 
 -- A row: how many slots a turn has, and which of them are given. It may give none.
 pub record Row : Type 0 where
@@ -25,10 +25,11 @@ lowest f (suc k) = let best = lowest f k in cond (nat_lt (f k) (f best)) k best
 abbrev pub repeating : Row → Meaning
 repeating r = record { phases = r.turn; count = from r; least = λ n. from r (lowest (λ p. from r p n) r.turn) n; worst = λ n. lowest (λ p. from r p n) r.turn }
 
--- What a row keeps: as a supply it is lawful; k whole turns more add k times a turn's given slots at every start; of the phases none
--- begins with fewer given slots than the worst one, and each before it begins with more.
-pub record RowLaws (r : Row) : Type 0 where
-  pub lawful : Lawful (repeating r)
-  pub turns : (p n k : ℕ) → from r p (n + k * r.turn) ≡ k * from r 0 r.turn + from r p n
-  pub fewest : (n p : ℕ) → p < r.turn → (repeating r).least n ≤ from r p n
-  pub first : (n p : ℕ) → p < (repeating r).worst n → (repeating r).least n < from r p n
+-- Whole turns add the same at every start: k more of them add k times a turn's given slots.
+abbrev pub TurnsAddTheSame : Row → Type 0
+TurnsAddTheSame r = (p n k : ℕ) → from r p (n + k * r.turn) ≡ k * from r 0 r.turn + from r p n
+
+-- The worst phase is the first of the fewest: none begins with fewer given slots, and each before it begins with more.
+abbrev pub WorstIsFirst : Row → Type 0
+WorstIsFirst r =
+    (n p : ℕ) → (p < r.turn → (repeating r).least n ≤ from r p n) × (p < (repeating r).worst n → (repeating r).least n < from r p n)

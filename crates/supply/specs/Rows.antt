@@ -6,7 +6,7 @@ use Rattle.std.proofs.Math.Nat.{mod-add-mod, add-mod_right, mod-add-div'}
 use Rattle.std.proofs.lemmas.Bool.{cases_lt}
 use Rattle.supply.specs.Least.{counted_within}
 use Rattle.supply.specs.Meaning.{Counting, Lawful}
-use Rattle.supply.specs.Row.{Row, upto, from, lowest, repeating, RowLaws}
+use Rattle.supply.specs.Row.{Row, upto, from, lowest, repeating, WorstIsFirst}
 use Rattle.supply.specs.Timetable.{timetable, bits, LawfulTimetable}
 
 -- the given slots among the first n are counted
@@ -124,14 +124,8 @@ module _ (r : Row) where
         attained = λ n. (lowest_there (λ p. from r p n) r.turn some, refl);
       }
 
-  pub row_laws : 0 < r.turn → RowLaws r
-  row_laws some =
-      record {
-        lawful = repeating_lawful some;
-        turns = from_turns;
-        fewest = λ n p there. lowest_least (λ q. from r q n) r.turn p there;
-        first = λ n p before. lowest_first (λ q. from r q n) r.turn p before;
-      }
+  pub worst_first : WorstIsFirst r
+  worst_first n p = (lowest_least (λ q. from r q n) r.turn p, lowest_first (λ q. from r q n) r.turn p)
 
 -- what a lawful timetable says of its numbers
 pub timetable_bounds : (length word : ℕ) → LawfulTimetable length word → (1 ≤ length) × (length ≤ 64) × (0 < word) × (word < 2 ^ length)

@@ -42,8 +42,10 @@ lawful_share m S F = lawful_pattern S F && few_phases m F
 abbrev pub LawfulShare : Meaning → ℕ → ℕ → Type 0
 LawfulShare m S F = lawful_share m S F ≡ true
 
--- The pattern as a row that repeats: `sure` is its minimum over the starts, and slot S mod F is a start that attains it.
-pub record PatternLaws (S F : ℕ) : Type 0 where
-  pub fewest : (x : ℕ) → (repeating (pattern S F)).least x ≡ sure S F x
-  pub start : S % F < F
-  pub attained : (x : ℕ) → from (pattern S F) (S % F) x ≡ sure S F x
+-- Of the pattern as a row that repeats, `sure` is the minimum over the starts.
+abbrev pub SureIsMinimum : ℕ → ℕ → Type 0
+SureIsMinimum S F = (x : ℕ) → (repeating (pattern S F)).least x ≡ sure S F x
+
+-- Slot S mod F is a start that attains it.
+abbrev pub SureIsAttained : ℕ → ℕ → Type 0
+SureIsAttained S F = (S % F < F) × ((x : ℕ) → from (pattern S F) (S % F) x ≡ sure S F x)

@@ -9,7 +9,7 @@ mod supply;
 mod timetable;
 mod whole;
 
-pub use laws::{least_laws, pattern_laws, row_laws};
+pub use laws::{fewest_slots_add_up, repeated_rows_are_lawful, sure_slots_are_the_minimum};
 pub use named::{Bottom, Named};
 pub use share::{Share, ShareRefused};
 pub use supply::Supply;

@@ -1,6 +1,6 @@
 ghost use Rattle.refusal.specs.Answers.{Answered};
-ghost use Rattle.std.specs.Prelude.{◌≡◌, ◌*◌, ◌<◌, ◌≤◌, true, [], ◌∷◌, IfErr, MatchOption};
 ghost use Rattle.refusal.specs.declared.reason.Reason.TheVariants.{ShareUnlawful};
+ghost use Rattle.std.specs.Prelude.{◌≡◌, ◌*◌, ◌<◌, ◌≤◌, [], ◌∷◌, IfErr, MatchOption};
 ghost use Rattle.supply.specs.Making.{by_supply, share_check, refusal_in};
 ghost use Rattle.supply.specs.Piles.{share_laws};
 ghost use Rattle.supply.specs.Share.{most_phases, share};

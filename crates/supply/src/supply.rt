@@ -9,16 +9,16 @@ pub trait Supply {
 
     // The number of phases.
     fn phases(&self) -> u32
-        ensures { result ≡ (meaning self.now).phases };
+        ensures counts_phases { result ≡ (meaning self.now).phases };
 
     // How many of the first n slots are given in a phase.
     fn count(&self, phase: u32, n: u16) -> u16
-        ensures { result ≡ (meaning self.now).count (phase % (meaning self.now).phases) n };
+        ensures counts_given_slots { result ≡ (meaning self.now).count (phase % (meaning self.now).phases) n };
 
     // How many given slots any n slots in a row hold at least, and a phase that begins with so few.
     fn least(&self, n: u16) -> (u16, u32)
-        ensures number { result.0 ≡ (meaning self.now).least n }
-        ensures phase { result.1 ≡ (meaning self.now).worst n };
+        ensures fewest_given_slots { result.0 ≡ (meaning self.now).least n }
+        ensures phase_with_so_few { result.1 ≡ (meaning self.now).worst n };
 
     ghost counts: { (s : Self) → Counts (meaning s) };
 

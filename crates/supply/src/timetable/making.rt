@@ -27,14 +27,14 @@ impl Timetable {
 
     // The number of slots of a turn.
     pub fn length(&self) -> u8
-        ensures { result ≡ self.now.length }
+        ensures length_of_a_turn { result ≡ self.now.length }
     {
         self.length
     }
 
     // The word whose bits say which slots of a turn are given.
     pub fn word(&self) -> u64
-        ensures { result ≡ self.now.word }
+        ensures word_of_a_turn { result ≡ self.now.word }
     {
         self.word
     }

@@ -44,7 +44,7 @@ filled_slot g c =
     let held = filled_admitted given jobs lines c.args.self.now.keeping slots s c.loop-s.next c.loop-s.table.jobs filled c.admit-next.result c.admit-next.new.table.jobs c.admit-next.ensures.table in
     elim c.if-after-before.branch [
       | then-after-before w ↦
-          let rises = count_given meaning c.args.phase s c.loop-s.before c.count-after.result (g.met.S.Supply.counts c.args.supply.now) c.loop-s.invariant.1 c.count-after.ensures w.if-after-before.true in
+          let rises = count_given meaning c.args.phase s c.loop-s.before c.count-after.result (g.met.S.Supply.counts c.args.supply.now) c.loop-s.invariant.1 c.count-after.ensures.counts_given_slots w.if-after-before.true in
           let there : s < length slots = omega (arith, c.loop-s-test.true, c.requires, c.loop-s.auto.slots) in
           let few : length jobs ≤ 2048 = omega (arith, c.args.self.now.few, length-map c.args.self.now.jobs.now (timed (rows_of c.args.self.now.lines.now))) in
           let served = served_given given jobs lines c.args.self.now.keeping slots s c.loop-s.next c.loop-s.table.jobs filled c.admit-next.result c.admit-next.new.table.jobs c.admit-next.ensures.place held there rises w.serve.result w.serve.new.self.jobs w.serve.ensures few in
@@ -52,7 +52,7 @@ filled_slot g c =
           let table : c.if-after-before.table.jobs ≡ w.serve.new.self.jobs = ap (λ (t : Table). t.jobs) w.table-is in
           subst (λ x. Served given jobs lines x s c.admit-next.result c.if-after-before.table.jobs) (sym wrote) (subst (Served given jobs lines (set slots s (entry_for w.serve.result)) s c.admit-next.result) (sym table) served)
       | else-after-before w ↦
-          let stays = count_not_given meaning c.args.phase s c.loop-s.before c.count-after.result c.loop-s.invariant.1 c.count-after.ensures w.if-after-before.false in
+          let stays = count_not_given meaning c.args.phase s c.loop-s.before c.count-after.result c.loop-s.invariant.1 c.count-after.ensures.counts_given_slots w.if-after-before.false in
           let served = served_not_given given jobs lines c.args.self.now.keeping slots s c.loop-s.next c.loop-s.table.jobs filled c.admit-next.result c.admit-next.new.table.jobs c.admit-next.ensures.place held stays in
           let table : c.if-after-before.table.jobs ≡ c.admit-next.new.table.jobs = ap (λ (t : Table). t.jobs) w.table-is in
           subst (λ x. Served given jobs lines x s c.admit-next.result c.if-after-before.table.jobs) (sym w.slots-is) (subst (Served given jobs lines slots s c.admit-next.result) (sym table) served)
@@ -80,7 +80,7 @@ loop-s-preserved g c =
     let served = filled_slot g (goal.at.loop-s-preserved g c).After-overdue in
     let later = c.in_default.ensures in
     let filled = filled_more given jobs lines c.args.self.now.keeping c.if-after-before.slots c.loop-s.s _ _ served (λ i job w. omega (arith, later i job w, add-one c.loop-s.s)) in
-    (subst (λ s. Filled given jobs lines c.if-after-before.slots s c.admit-next.result c.if-after-before.table.jobs) (sym (add-one c.loop-s.s)) filled, c.count-after.ensures)
+    (subst (λ s. Filled given jobs lines c.if-after-before.slots s c.admit-next.result c.if-after-before.table.jobs) (sym (add-one c.loop-s.s)) filled, c.count-after.ensures.counts_given_slots)
 
 pub returns-clause-runs : goal.returns-clause-runs
 returns-clause-runs g c =

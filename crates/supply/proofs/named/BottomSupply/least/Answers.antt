@@ -2,5 +2,5 @@
 use Rattle.std.proofs.Common.{rules}
 use Rattle.supply.proofs.named.BottomSupply.least.Goals as goal
 
-pub returns-in-Whole-clause-number : goal.returns-in-Whole-clause-number
-returns-in-Whole-clause-number c = search rules
+pub returns-in-Whole-clause-fewest_given_slots : goal.returns-in-Whole-clause-fewest_given_slots
+returns-in-Whole-clause-fewest_given_slots c = search rules

@@ -2,5 +2,5 @@
 use Rattle.std.proofs.Common.{rules}
 use Rattle.supply.proofs.named.NamedSupply.least.Goals as goal
 
-pub returns-in-Shared-clause-number : goal.returns-in-Shared-clause-number
-returns-in-Shared-clause-number c = search rules
+pub returns-in-Shared-clause-fewest_given_slots : goal.returns-in-Shared-clause-fewest_given_slots
+returns-in-Shared-clause-fewest_given_slots c = search rules

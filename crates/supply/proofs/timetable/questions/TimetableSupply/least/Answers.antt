@@ -17,8 +17,8 @@ folded c =
     fold_from_yields_List _ lower _ _ c.fold.ensures.ran all (λ a x b q k. search (rules, tests))
     ∙ fold_from_first f c.given_from.result t.length c.given_from.ensures bounds.0
 
-pub returns-clause-number : goal.returns-clause-number
-returns-clause-number c = ap (λ (p : ℕ × ℕ). p.0) (folded c)
+pub returns-clause-fewest_given_slots : goal.returns-clause-fewest_given_slots
+returns-clause-fewest_given_slots c = ap (λ (p : ℕ × ℕ). p.0) (folded c)
 
-pub returns-clause-phase : goal.returns-clause-phase
-returns-clause-phase c = ap (λ (p : ℕ × ℕ). p.1) (folded c)
+pub returns-clause-phase_with_so_few : goal.returns-clause-phase_with_so_few
+returns-clause-phase_with_so_few c = ap (λ (p : ℕ × ℕ). p.1) (folded c)
