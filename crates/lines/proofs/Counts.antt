@@ -62,7 +62,7 @@ module _ (T D : ℕ) (some : 1 ≤ D) (within : D ≤ T) where
       counted_least t (counted T D r + counted T D (t - r)) (omega (arith, add-mul (counted T D r) (suc (counted T D (t - r))) T))
 
 module _ (row : Row) (ok : Lawful row) where
-  resting_ways : (r : ℕ) → resting r row ≡ true → (r % row.period ≡ 0) ⊎ (row.deadline ≤ r % row.period)
+  pub resting_ways : (r : ℕ) → resting r row ≡ true → (r % row.period ≡ 0) ⊎ (row.deadline ≤ r % row.period)
   resting_ways r e = grind arith
 
   due_turns : (t : ℕ) → due t row ≡ true → (k : ℕ) × (t ≡ k * row.period + row.deadline)

@@ -5,6 +5,7 @@ pub mod Fewer
 pub mod First
 pub mod Gathered
 pub mod Hyperperiod
+pub mod Jobs
 pub mod Lawful
 pub mod Least
 pub mod Listed

@@ -2,6 +2,7 @@ pub mod Calls
 pub mod Changes
 pub mod Common
 pub mod Demand
+pub mod Jobs
 pub mod Laws
 pub mod Of
 pub mod Rest

@@ -1,14 +1,21 @@
 // What is proved of lines for all figures: each function carries a law, and does nothing.
-ghost use Rattle.lines.specs.Demand.{AllLawful};
+ghost use Rattle.std.specs.Prelude.{◌≡◌, ℕ, ◌<◌, ◌≤◌, ◌↔◌, true, nat_le};
+ghost use Rattle.lines.specs.Demand.{count};
+ghost use Rattle.lines.specs.Jobs.{release_of, deadline_of, how_many};
 ghost use Rattle.lines.specs.Laws.{LineLaws, RestLaws, DeadlineLaws, Among, FewerLaws};
 ghost use Rattle.lines.specs.Of.{rows_of};
+ghost use Rattle.lines.specs.Rest.{resting};
 
 use crate::line::Line;
 use crate::table::Lines;
 
-// A line's count is monotone and splits at its rest points; its deadlines are k periods and a deadline.
-pub fn line_laws(line: &Line)
-    ensures { LineLaws line.now.row }
+// A line's count and its rest points are what its jobs say: just the jobs that are due by t are counted, and t is a rest point
+// just where no job that is released before t is due after it. So the count is monotone and splits at the rest points.
+pub fn line_counts_and_rests_by_its_jobs(line: &Line)
+    ensures counts_just_the_jobs_due { (t k : ℕ) → (k < count line.now.row t) ↔ (deadline_of line.now.row k ≤ t) }
+    ensures counts_as_many_as_are_due { (t n : ℕ) → t ≤ n → count line.now.row t ≡ how_many (λ k. nat_le (deadline_of line.now.row k) t) n }
+    ensures rests_where_no_job_lies_across { (t : ℕ) → (resting t line.now.row ≡ true) ↔ ((k : ℕ) → release_of line.now.row k < t → deadline_of line.now.row k ≤ t) }
+    ensures count_splits_at_rest_points { LineLaws line.now.row }
 {}
 
 // The hyperperiod is the least common multiple, and the first rest point comes no later.

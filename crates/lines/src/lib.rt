@@ -10,7 +10,7 @@ mod row;
 mod table;
 mod watch_list;
 
-pub use laws::{deadline_laws, fewer_laws, line_laws, rest_laws};
+pub use laws::{deadline_laws, fewer_laws, line_counts_and_rests_by_its_jobs, rest_laws};
 pub use line::Line;
 pub use line_iter::LineIter;
 pub use row::Row;
