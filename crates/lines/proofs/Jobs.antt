@@ -1,5 +1,5 @@
 -- What the count and the rest points of a line say of its jobs, one by one.
-use Rattle.std.proofs.Common.{◌≡◌, ℕ, zero, suc, ◌+◌, ◌*◌, ◌/◌, ◌%◌, ◌<◌, ◌≤◌, ◌↔◌, Bool, true, false, cond, min, refl, ⊎_elim, add-mul, lt_of_mul-lt-mul_right, div-add-mod', nat_le, arith}
+use Rattle.std.proofs.Common.{◌≡◌, ℕ, zero, suc, ◌*◌, ◌/◌, ◌<◌, ◌≤◌, ◌↔◌, Bool, true, false, cond, min, refl, ⊎_elim, add-mul, lt_of_mul-lt-mul_right, div-add-mod', nat_le, arith}
 use Rattle.lines.proofs.Counts.{counted_below, counted_least, counted_within, rest_within_counted, resting_ways}
 use Rattle.lines.proofs.Rests.{rests_unless}
 use Rattle.lines.specs.Demand.{Lawful, count}
