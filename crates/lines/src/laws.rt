@@ -19,16 +19,16 @@ pub fn line_counts_and_rests_by_its_jobs(line: &Line)
 {}
 
 // The hyperperiod is the least common multiple, and the first rest point comes no later.
-pub fn rest_laws(lines: &Lines)
-    ensures { RestLaws (rows_of lines.now) }
+pub fn hyperperiod_is_least_and_rest_within(lines: &Lines)
+    ensures least_multiple_and_first_rest_within { RestLaws (rows_of lines.now) }
 {}
 
 // The deadlines up to n rise, and are all deadlines up to n and nothing else.
-pub fn deadline_laws(lines: &Lines, n: u16)
-    ensures { DeadlineLaws (rows_of lines.now) n }
+pub fn deadlines_rise_and_are_all(lines: &Lines, n: u16)
+    ensures rise_and_hold_just_the_deadlines { DeadlineLaws (rows_of lines.now) n }
 {}
 
 // Lines that are all among others rest no later than those, and their full list is contained.
-pub fn fewer_laws(few: &Lines, all: &Lines)
-    ensures { Among (rows_of few.now) (rows_of all.now) → FewerLaws (rows_of few.now) (rows_of all.now) }
+pub fn fewer_lines_rest_no_later(few: &Lines, all: &Lines)
+    ensures rest_no_later_and_list_contained { Among (rows_of few.now) (rows_of all.now) → FewerLaws (rows_of few.now) (rows_of all.now) }
 {}

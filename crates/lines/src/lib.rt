@@ -10,7 +10,10 @@ mod row;
 mod table;
 mod watch_list;
 
-pub use laws::{deadline_laws, fewer_laws, line_counts_and_rests_by_its_jobs, rest_laws};
+pub use laws::{
+    deadlines_rise_and_are_all, fewer_lines_rest_no_later, hyperperiod_is_least_and_rest_within,
+    line_counts_and_rests_by_its_jobs,
+};
 pub use line::Line;
 pub use line_iter::LineIter;
 pub use row::Row;

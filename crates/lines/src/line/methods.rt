@@ -11,7 +11,7 @@ use refusal::{Layer, Reason, Refusal};
 impl Line {
     // The line of a row, if the row's figures are lawful.
     pub fn new(row: Row) -> Result<Line, Refusal>
-        ensures { Answered result (line_checks row) (λ line. line.row ≡ row) }
+        ensures made_or_refused_by_checks { Answered result (line_checks row) (λ line. line.row ≡ row) }
     {
         if row.period < 1 || row.period > 1000 {
             return Err(Refusal::by(Layer::Roster, Reason::PeriodOutOfRange));
@@ -27,14 +27,14 @@ impl Line {
 
     // The line's figures.
     pub fn row(&self) -> Row
-        ensures { result ≡ self.now.row }
+        ensures figures_it_was_made_from { result ≡ self.now.row }
     {
         self.row
     }
 
     // How many jobs of the line fall due by t, if one comes at 0 and then one in each period.
     pub fn count(&self, t: u16) -> u16
-        ensures { result ≡ count self.now.row t }
+        ensures counts_jobs_due { result ≡ count self.now.row t }
     {
         if t < self.row.deadline {
             return 0;
@@ -44,14 +44,14 @@ impl Line {
 
     // The most work that n successive jobs of the line bring.
     pub fn work(&self, n: u16) -> u32
-        ensures { result ≡ work self.now.row n }
+        ensures work_of_so_many_jobs { result ≡ work self.now.row n }
     {
         u32::from(n) * u32::from(self.row.cost)
     }
 
     // The first deadline of the line after t.
     pub fn deadline_after(&self, t: u16) -> u32
-        ensures { result ≡ deadline_after self.now.row t }
+        ensures first_deadline_later { result ≡ deadline_after self.now.row t }
     {
         u32::from(self.count(t)) * u32::from(self.row.period) + u32::from(self.row.deadline)
     }

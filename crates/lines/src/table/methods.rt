@@ -41,7 +41,7 @@ fn checked(rows: ShortList<Row, 8>) -> Result<(Lines, WatchList), Refusal>
 impl Lines {
     // No line.
     pub fn none() -> Lines
-        ensures { rows_of result ≡ [] }
+        ensures holds_no_line { rows_of result ≡ [] }
     {
         Lines {
             rows: ShortList::none(NO_ROW),
@@ -50,29 +50,29 @@ impl Lines {
 
     // How many lines there are.
     pub fn len(&self) -> usize
-        ensures { result ≡ length (rows_of self.now) }
+        ensures counts_lines { result ≡ length (rows_of self.now) }
     {
         self.rows.len()
     }
 
     // The lines, one after another.
     pub fn iter(&self) -> LineIter<'_>
-        ensures rows { rows_left result ≡ rows_of self.now }
-        ensures few { length (rows_left result) ≤ 8 }
+        ensures walks_lines_in_order { rows_left result ≡ rows_of self.now }
+        ensures walks_at_most_8 { length (rows_left result) ≤ 8 }
     {
         LineIter::over(self.rows.as_slice())
     }
 
     // The line of a number, if there is one.
     pub fn get(&self, number: usize) -> Option<Line>
-        ensures { MatchOption result (length (rows_of self.now) ≤ number) (λ line. (number < length (rows_of self.now)) × (line.row ≡ slice_index_or (rows_of self.now) number no_row)) }
+        ensures line_of_that_number { MatchOption result (length (rows_of self.now) ≤ number) (λ line. (number < length (rows_of self.now)) × (line.row ≡ slice_index_or (rows_of self.now) number no_row)) }
     {
         self.iter().nth(number)
     }
 
     // The lines with one more, which gets the next number, and their full watch list.
     pub fn add(&self, row: Row) -> Result<(Lines, WatchList), Refusal>
-        ensures { Answered result (add_checks (rows_of self.now) row) (λ made. (rows_of made.0 ≡ rows_of self.now ++ (row ∷ [])) × (watched made.1 ≡ full_list (rows_of made.0))) }
+        ensures added_last_or_refused_by_checks { Answered result (add_checks (rows_of self.now) row) (λ made. (rows_of made.0 ≡ rows_of self.now ++ (row ∷ [])) × (watched made.1 ≡ full_list (rows_of made.0))) }
     {
         if self.rows.is_full() {
             return Err(Refusal::by(Layer::Roster, Reason::LinesFull));
@@ -85,7 +85,7 @@ impl Lines {
 
     // The lines without one, the later ones numbered one lower, and their full watch list; none where that line is not there.
     pub fn remove(&self, number: usize) -> Option<(Lines, WatchList)>
-        ensures { MatchOption result (length (rows_of self.now) ≤ number) (λ made. (number < length (rows_of self.now)) × (rows_of made.0 ≡ remove (rows_of self.now) number) × (watched made.1 ≡ full_list (rows_of made.0))) }
+        ensures gap_closed_or_none_where_absent { MatchOption result (length (rows_of self.now) ≤ number) (λ made. (number < length (rows_of self.now)) × (rows_of made.0 ≡ remove (rows_of self.now) number) × (watched made.1 ≡ full_list (rows_of made.0))) }
     {
         let mut rows = self.rows;
         rows.remove(number)?;
@@ -95,8 +95,8 @@ impl Lines {
 
     // The line of a number gets a new cost: its row is replaced whole, and the others stay.
     pub fn recost(&mut self, number: u8, cost: u16) -> Result<(), Refusal>
-        ensures answer { Answered result (recost_checks (rows_of self.old) number cost) (λ _. Unit {0}) }
-        ensures rows { rows_of self.new ≡ left result (with_cost (rows_of self.old) number cost) (rows_of self.old) }
+        ensures refused_by_checks { Answered result (recost_checks (rows_of self.old) number cost) (λ _. Unit {0}) }
+        ensures that_cost_alone_changes { rows_of self.new ≡ left result (with_cost (rows_of self.old) number cost) (rows_of self.old) }
     {
         let at = usize::from(number);
         let old = self.get(at).ok_or(Refusal::by(Layer::Roster, Reason::NoSuchLine).at(u32::from(
@@ -109,35 +109,35 @@ impl Lines {
 
     // The first deadline of the lines after an instant and up to a last one, if there is one.
     pub fn next_deadline(&self, after: u16, last: u16) -> Option<u16>
-        ensures { Next (rows_of self.now) after last result }
+        ensures first_deadline_between { Next (rows_of self.now) after last result }
     {
         next_deadline(self.iter(), after, last)
     }
 
     // What the lines ask for by t.
     pub fn demand(&self, t: u16) -> u32
-        ensures { result ≡ demand (rows_of self.now) t }
+        ensures sums_work_due { result ≡ demand (rows_of self.now) t }
     {
         self.iter().map(|line| line.work(line.count(t))).sum()
     }
 
     // The least common multiple of the periods.
     pub fn hyperperiod(&self) -> u16
-        ensures { result ≡ hyperperiod (rows_of self.now) }
+        ensures least_common_multiple { result ≡ hyperperiod (rows_of self.now) }
     {
         hyperperiod_of(self.iter()).unwrap()
     }
 
     // The first instant from 1 on at which every line rests.
     pub fn first_rest(&self) -> u16
-        ensures { result ≡ first_rest (rows_of self.now) }
+        ensures first_instant_all_rest { result ≡ first_rest (rows_of self.now) }
     {
         first_rest_of(self.iter())
     }
 
     // Every deadline up to the first rest point, rising, each once.
     pub fn full_list(&self) -> WatchList
-        ensures { watched result ≡ full_list (rows_of self.now) }
+        ensures every_deadline_to_first_rest { watched result ≡ full_list (rows_of self.now) }
     {
         deadlines_to(self.iter(), self.first_rest()).unwrap()
     }

@@ -9,7 +9,7 @@ use short_list::{Full, ShortList};
 impl WatchList {
     // The list of no deadline.
     pub fn none() -> WatchList
-        ensures { watched result ≡ [] }
+        ensures watches_nothing { watched result ≡ [] }
     {
         WatchList {
             deadlines: ShortList::none(0),
@@ -18,28 +18,28 @@ impl WatchList {
 
     // The deadlines, in their order.
     pub fn as_slice(&self) -> &[u16]
-        ensures { result.now ≡ watched self.now }
+        ensures shows_deadlines_in_order { result.now ≡ watched self.now }
     {
         self.deadlines.as_slice()
     }
 
     // How many deadlines are watched.
     pub fn len(&self) -> usize
-        ensures { result ≡ length (watched self.now) }
+        ensures counts_deadlines { result ≡ length (watched self.now) }
     {
         self.as_slice().len()
     }
 
     // Whether d is watched.
     pub fn contains(&self, d: u16) -> bool
-        ensures { Decides result (Has (watched self.now) d) }
+        ensures true_exactly_if_watched { Decides result (Has (watched self.now) d) }
     {
         self.as_slice().contains(&d)
     }
 
     // The list without d.
     pub fn without(&self, d: u16) -> WatchList
-        ensures { watched result ≡ without d (watched self.now) }
+        ensures that_deadline_alone_leaves { watched result ≡ without d (watched self.now) }
     {
         WatchList {
             deadlines: self.deadlines.without(d),

@@ -8,7 +8,7 @@ use Rattle.std.proofs.lemmas.List.{length_push}
 
 pub loop-d-init : goal.loop-d-init
 unfolding deadlines
-loop-d-init c = (omega arith, c.none-list.ensures)
+loop-d-init c = (omega arith, c.none-list.ensures.watches_nothing)
 
 pub returns-in_err-ok : goal.returns-in_err-ok
 returns-in_err-ok c =

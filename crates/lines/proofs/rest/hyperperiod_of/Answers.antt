@@ -19,13 +19,13 @@ least_common-requires c =
     let i = length c.loop-line.yielded in
     let rows = rows_left c.args.lines in
     let some = hyperperiod_positive (take i rows) (lawful_take rows i c.args.lines.lawful) in
-    omega (arith, ap (λ (row : Row). row.period) c.row.ensures, c.loop-line.invariant.1, c.loop-line.invariant.2, c.in-Some.line.lawful)
+    omega (arith, ap (λ (row : Row). row.period) c.row.ensures.figures_it_was_made_from, c.loop-line.invariant.1, c.loop-line.invariant.2, c.in-Some.line.lawful)
 
 pub returns-in_err-h : goal.returns-in_err-h
 returns-in_err-h c =
     let rows = rows_left c.args.lines in
     let next : (length c.loop-line.yielded < length rows) × (get_or rows (length c.loop-line.yielded) no_row ≡ c.in-Some.line.row) = rw (sym c.into_iter-line-iterator.ensures.into_iter_gives) (turn _ _ c.next.new.self _ c.in-Some.line c.loop-line.yielded_by c.in-Some.ensures.steps) in
-    let period = ap (λ (row : Row). row.period) (next.1 ∙ sym c.row.ensures) in
+    let period = ap (λ (row : Row). row.period) (next.1 ∙ sym c.row.ensures.figures_it_was_made_from) in
     let over = hyperperiod_over rows (length c.loop-line.yielded) next.0 c.args.lines.lawful _ c.loop-line.invariant.1 in
     rw c.from_residual.ensures (c.in_err-h.ensures _ (subst (λ p. Common c.loop-line.h p (hyperperiod rows)) period over))
 
@@ -33,7 +33,7 @@ pub loop-line-preserved : goal.loop-line-preserved
 loop-line-preserved c =
     let rows = rows_left c.args.lines in
     let next : (length c.loop-line.yielded < length rows) × (get_or rows (length c.loop-line.yielded) no_row ≡ c.in-Some.line.row) = rw (sym c.into_iter-line-iterator.ensures.into_iter_gives) (turn _ _ c.next.new.self _ c.in-Some.line c.loop-line.yielded_by c.in-Some.ensures.steps) in
-    let period = ap (λ (row : Row). row.period) (next.1 ∙ sym c.row.ensures) in
+    let period = ap (λ (row : Row). row.period) (next.1 ∙ sym c.row.ensures.figures_it_was_made_from) in
     let answer = c.in_ok-h.ensures in
     let least = subst (λ p. LeastCommon c.loop-line.h p c.in_ok-h.h) (sym period) answer.0 in
     rw (length_push c.loop-line.yielded c.in-Some.line) (omega arith, hyperperiod_more rows (length c.loop-line.yielded) next.0 c.args.lines.lawful _ _ c.loop-line.invariant.1 least, answer.1)

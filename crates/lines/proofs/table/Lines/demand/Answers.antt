@@ -26,10 +26,10 @@ work_bound line t r fits is =
 pub sum-requires-clause-fits : goal.sum-requires-clause-fits
 sum-requires-clause-fits c =
     let road = YieldsList-at c.map.ensures.source (YieldsList-from_first (λ (line : Line). line.row) rows_left (rows_left c.iter.result) refl) in
-    fits_from_length _ _ 8 _ (at_most_from_yields_List road c.iter.ensures.few) c.map.ensures.closure (omega arith) (λ x r q k. (search rules, work_bound x c.args.t r c.ranges.t.fits (search rules)))
+    fits_from_length _ _ 8 _ (at_most_from_yields_List road c.iter.ensures.walks_at_most_8) c.map.ensures.closure (omega arith) (λ x r q k. (search rules, work_bound x c.args.t r c.ranges.t.fits (search rules)))
 
 pub returns : goal.returns
 returns c =
     let road = YieldsList-at c.map.ensures.source (YieldsList-from_first (λ (line : Line). line.row) rows_left (rows_left c.iter.result) refl) in
     let total = sum_by_from_yields_List (λ (row : Row). work row (count row c.args.t)) (rows_left c.iter.result) c.map.result c.sum.result c.sum.ensures.ran (YieldsList-from_map _ _ road c.map.ensures.closure (λ x r q k. search rules)) in
-    total ∙ demand_is _ _ ∙ ap (λ rows. demand rows c.args.t) c.iter.ensures.rows
+    record { sums_work_due = total ∙ demand_is _ _ ∙ ap (λ rows. demand rows c.args.t) c.iter.ensures.walks_lines_in_order }

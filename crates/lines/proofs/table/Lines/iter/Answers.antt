@@ -2,5 +2,5 @@
 use Rattle.std.proofs.Common.{rules}
 use Rattle.lines.proofs.table.Lines.iter.Goals as goal
 
-pub returns-clause-rows : goal.returns-clause-rows
-returns-clause-rows c = search rules
+pub returns-clause-walks_lines_in_order : goal.returns-clause-walks_lines_in_order
+returns-clause-walks_lines_in_order c = search rules

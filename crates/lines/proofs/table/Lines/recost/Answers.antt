@@ -9,8 +9,8 @@ use Rattle.std.proofs.Common.{◌≡◌, ◌<◌, ◌≤◌, length, get_or, ap,
 use Rattle.std.proofs.lemmas.Grind.{common_steps}
 use Rattle.std.proofs.lemmas.List.{length-set}
 
-pub returns-in_err-line-clause-answer : goal.returns-in_err-line-clause-answer
-returns-in_err-line-clause-answer c = grind (arith, common_steps)
+pub returns-in_err-line-clause-refused_by_checks : goal.returns-in_err-line-clause-refused_by_checks
+returns-in_err-line-clause-refused_by_checks c = grind (arith, common_steps)
 
 pub invariant_of-self : goal.invariant_of-self
 invariant_of-self c =
@@ -18,7 +18,7 @@ invariant_of-self c =
     let at = c.from-at.result in
     let made : c.replace.new.self.items ≡ with_cost (rows_of self) at c.args.cost = search rules in
     let there : at < length (rows_of self) = search rules in
-    let cost = ap (λ (row : Row). row.cost) c.in_ok-line.ensures.1 in
+    let cost = ap (λ (row : Row). row.cost) c.in_ok-line.ensures.made_or_refused_by_checks.1 in
     let low : 1 ≤ c.args.cost = omega (arith, cost, c.in_ok-line.line.lawful) in
     let high : c.args.cost ≤ 1000 = omega (arith, cost, c.in_ok-line.line.lawful) in
     let alike = alike_recosted (rows_of self) at c.args.cost in
