@@ -15,12 +15,12 @@ loop-line-preserved c =
     let n = length c.loop-line.yielded in
     let line = c.in-Some.line in
     let row = get_or rows n no_row in
-    let same = ap rows_left c.into_iter-line-iterator.ensures.into_iter_gives ∙ c.iter-line-items.ensures.rows in
+    let same = ap rows_left c.into_iter-line-iterator.ensures.into_iter_gives ∙ c.iter-line-items.ensures.walks_lines_in_order in
     let next : (n < length rows) × (row ≡ line.row) = rw (sym same) (turn _ _ c.next.new.self _ line c.loop-line.yielded_by c.in-Some.ensures.steps) in
     let here : line.row ≡ row = sym next.1 in
     let lawful : Lawful row = subst Lawful here line.lawful in
     let one : 1 ≤ row.period = omega (arith, lawful) in
-    let period = ap (λ (x : Row). x.period) (c.row-period.ensures ∙ here) in
+    let period = ap (λ (x : Row). x.period) (c.row-period.ensures.figures_it_was_made_from ∙ here) in
     let rest = c.from-in-loop-line.ensures ∙ ap (λ p. p - after % p) period in
     let is = c.min-first.ensures ∙ ap (min c.loop-line.first) (ap₂ (λ x y. x + y) c.from.ensures rest) in
     let later = next_period row.period after one in (
@@ -32,6 +32,6 @@ loop-line-preserved c =
 pub returns-clause-none_between : goal.returns-clause-none_between
 returns-clause-none_between c =
     let rows = rows_of c.args.lines.now in
-    let same = ap rows_left c.into_iter-line-iterator.ensures.into_iter_gives ∙ c.iter-line-items.ensures.rows in
+    let same = ap rows_left c.into_iter-line-iterator.ensures.into_iter_gives ∙ c.iter-line-items.ensures.walks_lines_in_order in
     let all : length rows ≡ length c.loop-line.yielded = rw (sym same) (all_came _ _ _ c.loop-line.yielded_by c.in-None.ensures.steps.0) in
     unreleased_all rows c.args.after (length c.loop-line.yielded) c.loop-line.first (omega arith) c.loop-line.invariant.2

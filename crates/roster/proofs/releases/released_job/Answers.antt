@@ -16,6 +16,6 @@ unfolding released_at
 returns c =
     let row = c.args.line.now.row in
     let r = c.args.release in
-    let same = c.row-row.ensures in
+    let same = c.row-row.ensures.figures_it_was_made_from in
     let releases : c.if-release-row-eq0.releases ≡ (eqb (r % row.period) 0 && leb (r + row.deadline) c.args.t) = elim c.if-release-row-eq0.branch [ then-release-row-eq0 w ↦ grind (arith, nat_tests) | else-release-row-eq0 w ↦ grind (arith, nat_tests) ] in
     ap option_to_list c.then_some.ensures ∙ chosen c.if-release-row-eq0.releases _ ∙ ap₂ (λ test (x : Row). cond test (record { line = c.args.number; release = r; cost = x.cost } ∷ []) []) releases same

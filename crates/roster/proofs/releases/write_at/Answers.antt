@@ -14,7 +14,7 @@ use Rattle.std.proofs.lemmas.List.{append-nil, length_push}
 
 pub loop-number-init : goal.loop-number-init
 unfolding released_at
-loop-number-init c = (omega (arith, c.iter-line-items.ensures.few), refl, sym (add-zero c.args.start), written_none c.args.start c.args.list.now)
+loop-number-init c = (omega (arith, c.iter-line-items.ensures.walks_at_most_8), refl, sym (add-zero c.args.start), written_none c.args.start c.args.list.now)
 
 pub offset_bounds-list-place : goal.offset_bounds-list-place
 offset_bounds-list-place c = grind (arith, common_steps)
@@ -27,7 +27,7 @@ bounds-list-place c =
     let n = c.loop-number.number in
     let before = released_at 0 (take n rows) t r in
     let job = c.in-Some-released_job.job in
-    let next : (length c.loop-number.yielded < length rows) × (get_or rows (length c.loop-number.yielded) no_row ≡ c.in-Some.line.row) = rw (sym c.iter-line-items.ensures.rows) (turn _ _ c.next.new.self _ c.in-Some.line c.loop-number.yielded_by c.in-Some.ensures.steps) in
+    let next : (length c.loop-number.yielded < length rows) × (get_or rows (length c.loop-number.yielded) no_row ≡ c.in-Some.line.row) = rw (sym c.iter-line-items.ensures.walks_lines_in_order) (turn _ _ c.next.new.self _ c.in-Some.line c.loop-number.yielded_by c.in-Some.ensures.steps) in
     let here : get_or rows n no_row ≡ c.in-Some.line.row = rw c.loop-number.invariant.1 next.1 in
     let more : released_at 0 (take (n + 1) rows) t r ≡ before ++ (job ∷ []) = released_more t r rows n (omega (arith, next.0, c.loop-number.invariant.1)) ∙ ap (λ row. before ++ released_at n (row ∷ []) t r) here ∙ ap (λ jobs. before ++ jobs) (sym c.in-Some-released_job.ensures) in
     omega (arith, ap length more, length_push before job, released_fewer t r rows (n + 1), c.loop-number.invariant.2, c.requires, c.loop-number.auto.list)
@@ -44,7 +44,7 @@ loop-number-preserved c =
     let start = c.args.start in
     let list = c.args.list.now in
     let before = released_at 0 (take n rows) t r in
-    let turned : (length c.loop-number.yielded < length rows) × (get_or rows (length c.loop-number.yielded) no_row ≡ c.in-Some.line.row) = rw (sym c.iter-line-items.ensures.rows) (turn _ _ c.next.new.self _ c.in-Some.line c.loop-number.yielded_by c.in-Some.ensures.steps) in
+    let turned : (length c.loop-number.yielded < length rows) × (get_or rows (length c.loop-number.yielded) no_row ≡ c.in-Some.line.row) = rw (sym c.iter-line-items.ensures.walks_lines_in_order) (turn _ _ c.next.new.self _ c.in-Some.line c.loop-number.yielded_by c.in-Some.ensures.steps) in
     let here : get_or rows n no_row ≡ c.in-Some.line.row = rw c.loop-number.invariant.1 turned.1 in
     let left : n + 1 + length (rows_left c.next.new.self) ≤ 8 = omega (arith, c.loop-number.invariant.0, ap length c.in-Some.ensures.steps) in
     let count : n + 1 ≡ length (c.loop-number.yielded ++ (c.in-Some.line ∷ [])) = omega (arith, length_push c.loop-number.yielded c.in-Some.line, c.loop-number.invariant.1) in
@@ -65,7 +65,7 @@ loop-number-preserved c =
 -- at the end all lines have come
 whole : (c : goal.In-None) → take c.loop-number.number (rows_of c.args.lines.now) ≡ rows_of c.args.lines.now
 whole c =
-    let all : length (rows_of c.args.lines.now) ≡ length c.loop-number.yielded = rw (sym c.iter-line-items.ensures.rows) (all_came _ _ _ c.loop-number.yielded_by c.in-None.ensures.steps.0) in
+    let all : length (rows_of c.args.lines.now) ≡ length c.loop-number.yielded = rw (sym c.iter-line-items.ensures.walks_lines_in_order) (all_came _ _ _ c.loop-number.yielded_by c.in-None.ensures.steps.0) in
     take_all c.loop-number.number (rows_of c.args.lines.now) (omega (arith, c.loop-number.invariant.1))
 
 pub returns-clause-place : goal.returns-clause-place

@@ -6,5 +6,5 @@ use Rattle.roster.proofs.certificate.checks.may_cite.Goals as goal
 pub returns-then-cited-d : goal.returns-then-cited-d
 returns-then-cited-d c =
     let apart = c.if-cited-d.true in
-    let is = decided c.contains.result c.args.cited (watched c.args.list.now) c.contains.ensures in
+    let is = decided c.contains.result c.args.cited (watched c.args.list.now) c.contains.ensures.true_exactly_if_watched in
     grind arith

@@ -31,7 +31,7 @@ returns-then-not-contains g c =
     let d = c.args.deadline in
     let q = c.args.divisor in
     let cites = cites_of c.args.cites.now in
-    let off = decided false d W c.if-not-contains.ensures in
+    let off = decided false d W c.if-not-contains.ensures.true_exactly_if_watched in
     past_figures m rows W d q cites c.in_ok-certificate.ensures.0 ∙ cond-true (not (listed d W)) _ _ (ap not off) ∙ ap Some (sym c.by.ensures.layer_and_reason_at_place_0)
 
 pub returns-in_err-check_cited : goal.returns-in_err-check_cited
@@ -45,7 +45,7 @@ returns-in_err-check_cited g c =
     let bytes = c.args.cites.now in
     let cites = cites_of bytes in
     let it = c.in_ok-certificate.ensures in
-    let on = decided true d W c.if-not-contains.ensures in
+    let on = decided true d W c.if-not-contains.ensures.true_exactly_if_watched in
     let cited = of_figures c.in_ok-certificate.certificate d q bytes (λ d q bytes. refusal_of (each (cited_check W d) 1 (cites_of bytes))) it.1 in
     let p = err_from_is_err_and c.from_residual-in_err-check_cited.result c.from_residual-in_err-check_cited.ensures.1 in
     rw (p.1, p.2) (past_watched m rows W d q cites it.0 on ∙ refusal_first (each (cited_check W d) 1 cites) (behind_cites m rows W d q cites) _ (cited ∙ c.in_err-check_cited.ensures))
@@ -61,7 +61,7 @@ returns-in_err-check_counts g c =
     let bytes = c.args.cites.now in
     let cites = cites_of bytes in
     let it = c.in_ok-certificate.ensures in
-    let on = decided true d W c.if-not-contains.ensures in
+    let on = decided true d W c.if-not-contains.ensures.true_exactly_if_watched in
     let cited = of_figures c.in_ok-certificate.certificate d q bytes (λ d q bytes. refusal_of (each (cited_check W d) 1 (cites_of bytes))) it.1 in
     let counts = of_figures c.in_ok-certificate.certificate d q bytes (λ d q bytes. refusal_of (each (count_check d q (cites_of bytes)) 0 rows)) it.1 in
     let p = err_from_is_err_and c.from_residual-in_err-check_counts.result c.from_residual-in_err-check_counts.ensures.1 in
@@ -78,7 +78,7 @@ returns g c =
     let bytes = c.args.cites.now in
     let cites = cites_of bytes in
     let it = c.in_ok-certificate.ensures in
-    let on = decided true d W c.if-not-contains.ensures in
+    let on = decided true d W c.if-not-contains.ensures.true_exactly_if_watched in
     let cited = of_figures c.in_ok-certificate.certificate d q bytes (λ d q bytes. refusal_of (each (cited_check W d) 1 (cites_of bytes))) it.1 in
     let counts = of_figures c.in_ok-certificate.certificate d q bytes (λ d q bytes. refusal_of (each (count_check d q (cites_of bytes)) 0 rows)) it.1 in
     let supply = of_figures c.in_ok-certificate.certificate d q bytes (λ d q bytes. refusal_of (supply_check m d q (cites_of bytes) ∷ [])) it.1 in

@@ -12,4 +12,4 @@ returns-in_err-certified g c =
 
 pub returns : goal.returns
 returns g c =
-    works_by _ c.args.self.now _ (cut c.args.deadline c.args.divisor (cites_of c.args.cites.now)) _ _ c.in_ok-certified.ensures refl c.without-self.ensures refl
+    works_by _ c.args.self.now _ (cut c.args.deadline c.args.divisor (cites_of c.args.cites.now)) _ _ c.in_ok-certified.ensures refl c.without-self.ensures.that_deadline_alone_leaves refl

@@ -10,4 +10,4 @@ pub returns : goal.returns
 returns g c =
     let s = c.args.self.now.supply in
     let met = g.met.S.Supply in
-    fine_all _ _ (record { counts = met.counts s; windows = met.windows s; attained = met.attained s }) c.args.self.now.lines.lawful _ _ c.loop-d.invariant.1 c.in_default.ensures
+    fine_all _ _ (record { counts = met.counts s; windows = met.windows s; attained = met.attained s }) c.args.self.now.lines.lawful _ _ c.loop-d.invariant.1 c.in_default.ensures.first_deadline_between
