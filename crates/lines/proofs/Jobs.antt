@@ -1,10 +1,10 @@
 -- What the count and the rest points of a line say of its jobs, one by one.
-use Rattle.std.proofs.Common.{◌≡◌, ℕ, zero, suc, ◌*◌, ◌/◌, ◌<◌, ◌≤◌, ◌↔◌, Bool, true, false, cond, min, refl, ⊎_elim, add-mul, lt_of_mul-lt-mul_right, div-add-mod', nat_le, arith}
+use Rattle.std.proofs.Common.{◌≡◌, ℕ, zero, suc, ◌*◌, ◌/◌, ◌<◌, ◌≤◌, ◌↔◌, Bool, true, false, cond, min, refl, ⊎_elim, add-mul, mul-le-mul_right, lt_of_mul-lt-mul_right, div-add-mod', nat_le, arith}
 use Rattle.lines.proofs.Counts.{counted_below, counted_least, counted_within, rest_within_counted, resting_ways}
 use Rattle.lines.proofs.Rests.{rests_unless}
 use Rattle.lines.specs.Demand.{Lawful, count}
 use Rattle.lines.specs.Jobs.{release_of, deadline_of, how_many}
-use Rattle.lines.specs.Rest.{resting}
+use Rattle.lines.specs.Rest.{resting, deadline_after}
 use Rattle.lines.specs.declared.row.Row.{Row}
 use Rattle.std.proofs.lemmas.Bool.{cases_lt}
 
@@ -44,6 +44,17 @@ module _ (row : Row) (ok : Lawful row) where
       let many = how_many_below (λ k. nat_le (deadline_of row k) t) (count row t) (λ k l. let due = counted_due t k l in grind arith) (λ k e. due_counted t k (grind arith)) n in
       let within = counted_within row.period row.deadline ok.0 ok.1 t in
       omega arith
+
+  -- the first deadline after t is that of the job behind those that are counted
+  pub deadline_after_first : (t k : ℕ) → (t < deadline_of row k) ↔ (deadline_after row t ≤ deadline_of row k)
+  deadline_after_first t k = (
+    λ late. ⊎_elim (λ (l : k < count row t). let due = counted_due t k l in absurd (omega arith)) (λ (g : count row t ≤ k). let turns = mul-le-mul_right row.period g in omega arith) (cases_lt k (count row t)),
+    λ le.
+        ⊎_elim (λ (l : t < deadline_of row k). l) (λ (g : deadline_of row k ≤ t).
+        let more : suc k ≤ count row t = due_counted t k g in
+        let turns = mul-le-mul_right row.period more in
+        absurd (omega (arith, add-mul k 1 row.period, ok.0, ok.1))) (cases_lt t (deadline_of row k)),
+  )
 
   -- a line that rests at t has no job that is released before t and due after it
   rests_clear : (t : ℕ) → resting t row ≡ true → (k : ℕ) → release_of row k < t → deadline_of row k ≤ t

@@ -4,16 +4,18 @@ ghost use Rattle.lines.specs.Demand.{count};
 ghost use Rattle.lines.specs.Jobs.{release_of, deadline_of, how_many};
 ghost use Rattle.lines.specs.Laws.{LineLaws, RestLaws, DeadlineLaws, Among, FewerLaws};
 ghost use Rattle.lines.specs.Of.{rows_of};
-ghost use Rattle.lines.specs.Rest.{resting};
+ghost use Rattle.lines.specs.Rest.{resting, deadline_after};
 
 use crate::line::Line;
 use crate::table::Lines;
 
-// A line's count and its rest points are what its jobs say: just the jobs that are due by t are counted, and t is a rest point
-// just where no job that is released before t is due after it. So the count is monotone and splits at the rest points.
+// A line's count, its first deadline after t and its rest points are what its jobs say, of which one is released every period
+// from 0 on. Counted at t are just the jobs that are due by t; among the first n jobs, for each n from t on, those are as many as
+// the count says. A rest point is where no job that is released before is due after. So the count is monotone and splits there.
 pub fn line_counts_and_rests_by_its_jobs(line: &Line)
     ensures counts_just_the_jobs_due { (t k : ℕ) → (k < count line.now.row t) ↔ (deadline_of line.now.row k ≤ t) }
     ensures counts_as_many_as_are_due { (t n : ℕ) → t ≤ n → count line.now.row t ≡ how_many (λ k. nat_le (deadline_of line.now.row k) t) n }
+    ensures deadline_after_is_the_first_later { (t k : ℕ) → (t < deadline_of line.now.row k) ↔ (deadline_after line.now.row t ≤ deadline_of line.now.row k) }
     ensures rests_where_no_job_lies_across { (t : ℕ) → (resting t line.now.row ≡ true) ↔ ((k : ℕ) → release_of line.now.row k < t → deadline_of line.now.row k ≤ t) }
     ensures count_splits_at_rest_points { LineLaws line.now.row }
 {}

@@ -1,5 +1,5 @@
 use Rattle.lines.proofs.Counts.{line_laws}
-use Rattle.lines.proofs.Jobs.{counts_due, counts_many, rests_clear_exactly}
+use Rattle.lines.proofs.Jobs.{counts_due, counts_many, deadline_after_first, rests_clear_exactly}
 use Rattle.lines.proofs.laws.line_counts_and_rests_by_its_jobs.Goals as goal
 
 pub returns : goal.returns
@@ -9,6 +9,7 @@ returns c =
     record {
       counts_just_the_jobs_due = counts_due row lawful;
       counts_as_many_as_are_due = counts_many row lawful;
+      deadline_after_is_the_first_later = deadline_after_first row lawful;
       rests_where_no_job_lies_across = rests_clear_exactly row lawful;
       count_splits_at_rest_points = line_laws row lawful;
     }
