@@ -11,8 +11,8 @@ use supply::Supply;
 
 // A roster over a supply after some calls, in their order; a call that is refused changes nothing.
 pub fn after<S: Supply>(supply: S, calls: &[Call]) -> Roster<S>
-    ensures supply { result.supply ≡ supply }
-    ensures reached { Reached (S.meaning supply) (map call_of calls.now) (rows_in result) (watched_in result) }
+    ensures keeps_the_supply { result.supply ≡ supply }
+    ensures reached_by_the_calls { Reached (S.meaning supply) (map call_of calls.now) (rows_in result) (watched_in result) }
 {
     let mut roster = Roster::open(supply);
     for call in calls {
@@ -24,8 +24,8 @@ pub fn after<S: Supply>(supply: S, calls: &[Call]) -> Roster<S>
 // The roster after some calls, and its verdict: it is exact, of the lines that follow from the calls' arguments alone,
 // whatever the supply, the calls and the refusals were.
 pub fn judged<S: Supply>(supply: S, calls: &[Call]) -> (Roster<S>, Option<u16>)
-    ensures lines { rows_in result.0 ≡ follow [] (map call_of calls.now) }
-    ensures exact { ExactVerdict (S.meaning supply) (follow [] (map call_of calls.now)) result.1 }
+    ensures lines_follow_from_calls { rows_in result.0 ≡ follow [] (map call_of calls.now) }
+    ensures verdict_is_exact { ExactVerdict (S.meaning supply) (follow [] (map call_of calls.now)) result.1 }
 {
     let roster = after(supply, calls);
     let verdict = roster.verdict();

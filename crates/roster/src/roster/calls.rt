@@ -14,9 +14,9 @@ use supply::Supply;
 impl<S: Supply> Roster<S> {
     // A roster over a supply, without lines.
     pub fn open(supply: S) -> Roster<S>
-        ensures supply { result.supply ≡ supply }
-        ensures lines { rows_in result ≡ [] }
-        ensures watched { watched_in result ≡ [] }
+        ensures takes_the_supply { result.supply ≡ supply }
+        ensures holds_no_line { rows_in result ≡ [] }
+        ensures watches_nothing { watched_in result ≡ [] }
     {
         Roster {
             supply,
@@ -27,7 +27,7 @@ impl<S: Supply> Roster<S> {
 
     // One line more, which gets the next number; every deadline up to the first rest point is then looked at.
     pub fn enrol(&mut self, row: Row) -> Result<u8, Refusal>
-        ensures { Works (S.meaning self.old.supply) self.old self.new (enrol row) result (λ number. number ≡ length (rows_in self.old)) }
+        ensures added_last_or_refused_by_checks { Works (S.meaning self.old.supply) self.old self.new (enrol row) result (λ number. number ≡ length (rows_in self.old)) }
     {
         let number = self.lines.len();
         let (lines, watched) = self.lines.add(row)?;
@@ -38,7 +38,7 @@ impl<S: Supply> Roster<S> {
 
     // A line leaves, and the later ones are numbered one lower; every deadline up to the first rest point is then looked at.
     pub fn strike(&mut self, number: u8) -> Result<(), Refusal>
-        ensures { Works (S.meaning self.old.supply) self.old self.new (strike number) result (λ _. Unit {0}) }
+        ensures removed_or_refused_by_checks { Works (S.meaning self.old.supply) self.old self.new (strike number) result (λ _. Unit {0}) }
     {
         let missing = Refusal::by(Layer::Roster, Reason::NoSuchLine).at(u32::from(number));
         let (lines, watched) = self.lines.remove(usize::from(number)).ok_or(missing)?;
@@ -49,14 +49,14 @@ impl<S: Supply> Roster<S> {
 
     // A line gets a new cost; the deadlines that are looked at stay.
     pub fn recost(&mut self, number: u8, cost: u16) -> Result<(), Refusal>
-        ensures { Works (S.meaning self.old.supply) self.old self.new (recost number cost) result (λ _. Unit {0}) }
+        ensures cost_changed_or_refused_by_checks { Works (S.meaning self.old.supply) self.old self.new (recost number cost) result (λ _. Unit {0}) }
     {
         self.lines.recost(number, cost)
     }
 
     // A deadline need not be looked at any more, where its certificate is accepted.
     pub fn cut(&mut self, deadline: u16, divisor: u16, cites: &[u8]) -> Result<(), Refusal>
-        ensures { Works (S.meaning self.old.supply) self.old self.new (cut deadline divisor (cites_of cites.now)) result (λ _. Unit {0}) }
+        ensures deadline_leaves_or_refused_by_checks { Works (S.meaning self.old.supply) self.old self.new (cut deadline divisor (cites_of cites.now)) result (λ _. Unit {0}) }
     {
         self.certified(deadline, divisor, cites)?;
         self.watched = self.watched.without(deadline);

@@ -9,7 +9,7 @@ use supply::Supply;
 impl<S: Supply> Roster<S> {
     // Makes a call, whichever it is. A match: a call is a value that lists hold, so it can't be the closure of what is done.
     pub fn make(&mut self, call: Call) -> Result<(), Refusal>
-        ensures { Works (S.meaning self.old.supply) self.old self.new (call_of call.entry) result (λ _. Unit {0}) }
+        ensures works_as_that_call { Works (S.meaning self.old.supply) self.old self.new (call_of call.entry) result (λ _. Unit {0}) }
     {
         match call {
             Call::Enrol(row) => self.enrol(row).map(|_| ()),

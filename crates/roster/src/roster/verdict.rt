@@ -13,8 +13,8 @@ impl<S: Supply> Roster<S> {
     // The overloaded deadline: the least of all deadlines at which the lines ask for more than the supply is sure to give.
     // There is none where they fit.
     pub fn verdict(&self) -> Option<u16>
-        ensures says { Verdict (S.meaning self.now.supply) (rows_in self.now) (watched_in self.now) result }
-        ensures exact { (calls : List Call) → Reached (S.meaning self.now.supply) calls (rows_in self.now) (watched_in self.now) → ExactVerdict (S.meaning self.now.supply) (rows_in self.now) result }
+        ensures least_overload_or_none { Verdict (S.meaning self.now.supply) (rows_in self.now) (watched_in self.now) result }
+        ensures exact_after_any_calls { (calls : List Call) → Reached (S.meaning self.now.supply) calls (rows_in self.now) (watched_in self.now) → ExactVerdict (S.meaning self.now.supply) (rows_in self.now) result }
     {
         let d = self.watched_overload()?;
         self.first_overload(d)

@@ -19,7 +19,7 @@ impl<S: Supply> Roster<S> {
     // Where the lines are overloaded, writes the jobs that ask the most by the overloaded deadline at the front of a list, and
     // answers the phase in which no schedule meets them, and their number. What stands behind them stays.
     pub fn witness(&self, list: &mut [Job]) -> Result<Witness, Refusal>
-        ensures answered { (verdict : Option ℕ) → Verdict (S.meaning self.now.supply) (rows_in self.now) (watched_in self.now) verdict → Answered result (witness_checks (rows_in self.now) verdict (length list.old)) (λ w. (w.phase ≡ witness_phase (S.meaning self.now.supply) verdict) × (w.jobs ≡ length (witness_jobs (rows_in self.now) verdict))) }
+        ensures phase_and_number_by_checks { (verdict : Option ℕ) → Verdict (S.meaning self.now.supply) (rows_in self.now) (watched_in self.now) verdict → Answered result (witness_checks (rows_in self.now) verdict (length list.old)) (λ w. (w.phase ≡ witness_phase (S.meaning self.now.supply) verdict) × (w.jobs ≡ length (witness_jobs (rows_in self.now) verdict))) }
         ensures list_holds_witness { (verdict : Option ℕ) → Verdict (S.meaning self.now.supply) (rows_in self.now) (watched_in self.now) verdict → list.new ≡ left result (fronted (witness_jobs (rows_in self.now) verdict) list.old) list.old }
         ensures refusal_leaves_list { OnErr result (list.new ≡ list.old) }
         ensures no_schedule_meets_it { (calls : List Call) → Reached (S.meaning self.now.supply) calls (rows_in self.now) (watched_in self.now) → IfOk result (λ w. Legal (rows_in self.now) (take w.jobs list.new) × (MetIn (S.meaning self.now.supply) (rows_in self.now) (take w.jobs list.new) w.phase → ⊥)) }

@@ -11,9 +11,9 @@ returns g c =
     let roster = c.after-roster.result in
     let calls = map call_of c.args.calls.now in
     let m = g.S.Supply.meaning in
-    let follows = lines_follow _ calls _ _ c.after-roster.ensures.reached in
-    let here = subst (λ s. Reached (m s) calls (rows_in roster) (watched_in roster)) (sym c.after-roster.ensures.supply) c.after-roster.ensures.reached in
+    let follows = lines_follow _ calls _ _ c.after-roster.ensures.reached_by_the_calls in
+    let here = subst (λ s. Reached (m s) calls (rows_in roster) (watched_in roster)) (sym c.after-roster.ensures.keeps_the_supply) c.after-roster.ensures.reached_by_the_calls in
     record {
-      lines = follows;
-      exact = subst (λ s. ExactVerdict (m s) (follow [] calls) c.verdict-verdict.result) c.after-roster.ensures.supply (subst (λ rows. ExactVerdict (m roster.supply) rows c.verdict-verdict.result) follows (c.verdict-verdict.ensures.exact calls here));
+      lines_follow_from_calls = follows;
+      verdict_is_exact = subst (λ s. ExactVerdict (m s) (follow [] calls) c.verdict-verdict.result) c.after-roster.ensures.keeps_the_supply (subst (λ rows. ExactVerdict (m roster.supply) rows c.verdict-verdict.result) follows (c.verdict-verdict.ensures.exact_after_any_calls calls here));
     }

@@ -2,5 +2,5 @@
 use Rattle.std.proofs.Common.{rules}
 use Rattle.roster.proofs.roster.Roster.open.Goals as goal
 
-pub returns-clause-lines : goal.returns-clause-lines
-returns-clause-lines g c = search rules
+pub returns-clause-holds_no_line : goal.returns-clause-holds_no_line
+returns-clause-holds_no_line g c = search rules

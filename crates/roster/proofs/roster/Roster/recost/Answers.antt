@@ -5,4 +5,4 @@ use Rattle.roster.specs.Working.{watched_in}
 use Rattle.std.proofs.Common.{refl}
 
 pub returns : goal.returns
-returns g c = works_by _ _ _ (recost c.args.number c.args.cost) c.recost.result _ c.recost.ensures.refused_by_checks c.recost.ensures.that_cost_alone_changes (left_same c.recost.result (watched_in c.args.self.now)) refl
+returns g c = record { cost_changed_or_refused_by_checks = works_by _ _ _ (recost c.args.number c.args.cost) c.recost.result _ c.recost.ensures.refused_by_checks c.recost.ensures.that_cost_alone_changes (left_same c.recost.result (watched_in c.args.self.now)) refl }

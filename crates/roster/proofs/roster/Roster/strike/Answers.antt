@@ -17,7 +17,7 @@ returns-in_err-lines g c =
     let at = c.at-missing.ensures.place_alone_is_new in
     let place = c.from.ensures in
     let why = none.1 in
-    rw (p.1, p.2) (works_by _ c.args.self.now c.args.self.now (strike c.args.number) (Err c.in_err-lines.field-0.0) _ (grind arith) refl refl refl)
+    rw (p.1, p.2) (record { removed_or_refused_by_checks = works_by _ c.args.self.now c.args.self.now (strike c.args.number) (Err c.in_err-lines.field-0.0) _ (grind arith) refl refl refl })
 
 pub returns : goal.returns
 returns g c =
@@ -25,4 +25,4 @@ returns g c =
     let number = c.from-2.ensures in
     let there : c.args.number < length (rows_in c.args.self.now) = omega (arith, made.0) in
     let rows = made.1 ∙ ap (remove (rows_in c.args.self.now)) number in
-    works_by _ c.args.self.now _ (strike c.args.number) _ _ (grind arith, tt) rows (made.2 ∙ ap full_list rows) refl
+    record { removed_or_refused_by_checks = works_by _ c.args.self.now _ (strike c.args.number) _ _ (grind arith, tt) rows (made.2 ∙ ap full_list rows) refl }

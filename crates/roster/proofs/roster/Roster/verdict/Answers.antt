@@ -4,14 +4,14 @@ use Rattle.roster.proofs.roster.Roster.verdict.Goals as goal
 use Rattle.roster.specs.Working.{rows_in, watched_in}
 use Rattle.std.proofs.Common.{None}
 
-pub returns-in_err-d-clause-exact : goal.returns-in_err-d-clause-exact
-returns-in_err-d-clause-exact g c =
+pub returns-in_err-d-clause-exact_after_any_calls : goal.returns-in_err-d-clause-exact_after_any_calls
+returns-in_err-d-clause-exact_after_any_calls g c =
     let self = c.args.self.now in
     let met = g.met.S.Supply in
     rw c.from_residual.ensures (λ calls h. verdict_exact (g.S.Supply.meaning self.supply) (record { counts = met.counts self.supply; windows = met.windows self.supply; attained = met.attained self.supply }) calls (rows_in self) (watched_in self) h None c.in_err-d.ensures)
 
-pub returns-clause-exact : goal.returns-clause-exact
-returns-clause-exact g c calls h =
+pub returns-clause-exact_after_any_calls : goal.returns-clause-exact_after_any_calls
+returns-clause-exact_after_any_calls g c calls h =
     let self = c.args.self.now in
     let met = g.met.S.Supply in
     let over = c.in_ok-d.ensures in
