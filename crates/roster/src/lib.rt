@@ -12,6 +12,6 @@ mod witness;
 
 pub use call::Call;
 pub use cite::Cite;
-pub use history::{after, judged};
+pub use history::{JudgedRoster, after, judged};
 pub use roster::Roster;
 pub use witness::Witness;

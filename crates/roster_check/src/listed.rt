@@ -31,9 +31,9 @@ static LEFT: &[Row; 2] = rows![(8, 6, 2), (13, 12, 10)];
 
 // Makes the calls on a supply.
 fn compare<S: Supply + Copy>(tally: &mut Tally, supply: S, watched: &[u16], verdict: u16) {
-    let (roster, overloaded) = judged(supply, &CALLS);
-    tally.note(holds(&roster, LEFT, watched));
-    tally.note(overloaded == Some(verdict));
+    let judged = judged(supply, &CALLS);
+    tally.note(holds(&judged.roster, LEFT, watched));
+    tally.note(judged.verdict == Some(verdict));
     tally.note(holds(&after(supply, &CALLS), LEFT, watched));
 }
 
