@@ -1,3 +1,4 @@
+pub mod Carrying
 pub mod Certifying
 pub mod Each
 pub mod Fitting

@@ -12,6 +12,6 @@ mod witness;
 
 pub use call::Call;
 pub use cite::Cite;
-pub use history::{JudgedRoster, after, judged};
+pub use history::{JudgedRoster, JudgedRun, after, judged, judged_run};
 pub use roster::Roster;
 pub use witness::Witness;
