@@ -3,8 +3,9 @@ use crate::certificate::Certificate;
 use crate::figures::{Deadlines, Figures, at, deadlines, given, least};
 use crate::jobs::{NO_JOB, is_witness, legal};
 use crate::model::Model;
-use roster::{Call, Roster};
+use roster::{Call, Roster, judged_run};
 use run::{Job, Outcome};
+use short_list::ShortList;
 use supply::Named;
 use trial_tools::{Generator, Plan, Random, Tally};
 
@@ -98,6 +99,7 @@ struct Trials {
     overloads: Tally,
     witnesses: Tally,
     lists: Tally,
+    judged: Tally,
     random: Random,
 }
 
@@ -111,6 +113,7 @@ const START: Trials = Trials {
     overloads: none!("verdicts of rosters that do not"),
     witnesses: none!("witnesses and their runs"),
     lists: none!("runs of legal lists on rosters that fit"),
+    judged: none!("verdicts and runs of rosters made in one call"),
     random: Random { state: 1 },
 };
 
@@ -222,6 +225,23 @@ impl Trial {
         }
     }
 
+    // Whether a roster that calls make in one go is the one on trial, gets its verdict, and takes a legal list, which is met where the
+    // lines fit. (The generator is a copy, so that what comes next is as if none were drawn.)
+    fn is_judged(&self, calls: &[Call], mut random: Random) -> bool {
+        let jobs = legal(self.model.rows.as_slice(), &mut random);
+        let phase = u32::from(random.below(1000));
+        let mut entries = [0; 400];
+        let supply = *self.roster.supply();
+        let judged = judged_run(supply, calls, phase, jobs.as_slice(), &mut entries);
+        let expected = self.model.overload(&self.least);
+        let ends = match judged.run {
+            Ok(Outcome::Met) => true,
+            Ok(Outcome::Missed { .. }) => expected.is_some(),
+            Err(_) => false,
+        };
+        ends && judged.verdict == expected && self.model.is_held(&judged.roster)
+    }
+
     // Certificates, the roster after each, and new costs in turn, and at last a line less.
     fn work(&mut self, trials: &mut Trials) {
         for _ in 0..COSTS {
@@ -249,10 +269,14 @@ impl Trials {
             plan,
             least,
         };
+        let mut enrols: ShortList<Call, 4> = ShortList::none(Call::Strike(0));
         for _ in 0..lines {
             let enrol = enrol(&mut self.random, dearest);
+            let _ = enrols.push(enrol);
             trial.make(&mut self.calls, enrol);
         }
+        self.judged
+            .note(trial.is_judged(enrols.as_slice(), self.random));
         trial.work(self);
     }
 
@@ -270,7 +294,7 @@ impl Trials {
 }
 
 // Tries rosters on every supply.
-pub(crate) fn compared() -> [Tally; 8] {
+pub(crate) fn compared() -> [Tally; 9] {
     let mut trials = START;
     for plan in &PLANS {
         trials.try_plan(*plan);
@@ -284,5 +308,6 @@ pub(crate) fn compared() -> [Tally; 8] {
         trials.overloads,
         trials.witnesses,
         trials.lists,
+        trials.judged,
     ]
 }
