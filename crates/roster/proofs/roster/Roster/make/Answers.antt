@@ -2,5 +2,5 @@
 use Rattle.std.proofs.Common.{rules}
 use Rattle.roster.proofs.roster.Roster.make.Goals as goal
 
-pub returns-in-Strike : goal.returns-in-Strike
-returns-in-Strike g c = search rules
+pub returns-in-Recost : goal.returns-in-Recost
+returns-in-Recost g c = search rules
