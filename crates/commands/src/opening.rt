@@ -13,7 +13,7 @@ fn timetable(length: &str, word: &str) -> Result<Fields, Trouble> {
     Ok(Fields {
         length,
         word,
-        ..Fields::WHOLE
+        ..Fields::whole()
     })
 }
 
@@ -28,7 +28,7 @@ fn shared(below: Fields, s: &str, f: &str) -> Result<Fields, Trouble> {
 // The fields of the whole processor, or of a timetable.
 fn bottom(words: &[&str]) -> Result<Fields, Trouble> {
     match words {
-        ["whole"] => Ok(Fields::WHOLE),
+        ["whole"] => Ok(Fields::whole()),
         ["timetable", length, word] => timetable(length, word),
         _ => Err(Trouble::Usage(Usage::Open)),
     }

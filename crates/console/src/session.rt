@@ -116,7 +116,7 @@ impl Session {
         Session {
             heap,
             roster: Roster::open(Named::Plain(Bottom::Whole(Whole))),
-            fields: Fields::WHOLE,
+            fields: Fields::whole(),
             cuts: Vec::new(heap),
         }
     }

@@ -20,8 +20,8 @@ pub(crate) fn same_supply(one: &Named, other: &Named) -> bool {
 
 // Whether two sets of lines are the same, line by line: they are if they are spelled so.
 pub(crate) fn same_lines(one: &Lines, other: &Lines) -> bool {
-    let this = Draft::of(Fields::WHOLE, one);
-    let that = Draft::of(Fields::WHOLE, other);
+    let this = Draft::of(Fields::whole(), one);
+    let that = Draft::of(Fields::whole(), other);
     this.bytes.as_slice() == that.bytes.as_slice()
 }
 

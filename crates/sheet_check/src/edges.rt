@@ -25,7 +25,7 @@ pub(crate) fn compare_lengths(comparison: &mut Comparison) -> Tally {
 
 // A sheet that ends behind a certificate of some number of cites.
 fn with_cites(number: u8) -> Draft {
-    let mut draft = Draft::open(Fields::WHOLE, &Lines::none());
+    let mut draft = Draft::open(Fields::whole(), &Lines::none());
     draft.cut(5, 1, number, &[]);
     for _ in 0..number {
         draft.raw(b"\0\x05\0\x01");

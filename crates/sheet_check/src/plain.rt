@@ -77,7 +77,7 @@ pub(crate) fn fields(record: &[u8]) -> Fields {
             share: *share,
             of: *of,
         },
-        _ => Fields::WHOLE,
+        _ => Fields::whole(),
     }
 }
 

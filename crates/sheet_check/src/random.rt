@@ -13,7 +13,7 @@ pub(crate) fn byte(random: &mut Random) -> u8 {
 
 // Fields that name the whole processor or a timetable, most of whose slots are given, and half of the time a share of it.
 pub(crate) fn fields(random: &mut Random) -> Fields {
-    let mut fields = Fields::WHOLE;
+    let mut fields = Fields::whole();
     if random.below(3) > 0 {
         let length = byte(random) % 64 + 1;
         let row = random.steps.step() | random.steps.step() | random.steps.step();

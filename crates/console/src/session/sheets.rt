@@ -36,7 +36,7 @@ impl Session {
     // Reads the bytes of a sheet in place of the roster, and takes over what its records say beside its lines. The watch list is set
     // in full by each line. A refused sheet leaves no lines, on the whole processor.
     fn take(&mut self, sheet: &[u8]) -> Result<(), Trouble> {
-        self.fields = Fields::WHOLE;
+        self.fields = Fields::whole();
         self.cuts.clear();
         sheet::read(&mut self.roster, sheet)?;
         if let Some((fields, records)) = opened(sheet) {
