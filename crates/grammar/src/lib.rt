@@ -5,4 +5,6 @@ mod fields;
 mod theorems;
 
 pub use fields::Fields;
-pub use theorems::{accepted_history, one_reading, written_accepted};
+pub use theorems::{
+    accepted_sheet_is_a_history, bytes_have_one_reading, written_sheet_is_accepted,
+};
