@@ -43,9 +43,9 @@ refusal_text e =
 -- A text tells the figures of a roster, with its verdict, which is exact after whatever calls.
 pub record Tells (roster : Roster Named) (text : List ℕ) : Type 0 where
   pub verdict : Option ℕ
-  pub says : Verdict (named roster.supply) (rows_in roster) (watched_in roster) verdict
-  pub exact : (calls : List Call) → Reached (named roster.supply) calls (rows_in roster) (watched_in roster) → ExactVerdict (named roster.supply) (rows_in roster) verdict
-  pub text_is : text ≡ figures_text (rows_in roster) (watched_in roster) verdict
+  pub least_overload_or_none : Verdict (named roster.supply) (rows_in roster) (watched_in roster) verdict
+  pub exact_after_any_calls : (calls : List Call) → Reached (named roster.supply) calls (rows_in roster) (watched_in roster) → ExactVerdict (named roster.supply) (rows_in roster) verdict
+  pub text_is_figures_and_verdict : text ≡ figures_text (rows_in roster) (watched_in roster) verdict
 
 -- The text of a report: the figures of the roster that the sheet leaves, with its verdict, which is exact; or why it is refused.
 pub data Reports (bytes : List ℕ) : List ℕ → Type 0 where
@@ -55,7 +55,7 @@ pub data Reports (bytes : List ℕ) : List ℕ → Type 0 where
 -- A report is at most 96 bytes long, and is written over the front of a lent list, if that has room for it.
 pub record Reported (bytes before after : List ℕ) (r : Result ℕ Refusal) : Type 0 where
   pub text : List ℕ
-  pub reports : Reports bytes text
-  pub brief : length text ≤ 96
-  pub answered : Answered r (room_check (length text) (length before) ∷ []) (λ n. n ≡ length text)
+  pub tells_the_sheet : Reports bytes text
+  pub at_most_96_bytes : length text ≤ 96
+  pub refused_where_list_is_too_short : Answered r (room_check (length text) (length before) ∷ []) (λ n. n ≡ length text)
   pub list_holds_text : after ≡ left r (fronted text before) before

@@ -50,7 +50,7 @@ fn records(mut roster: Roster<Named>, bytes: &[u8]) -> Result<Roster<Named>, She
 
 // The roster of a sheet.
 pub fn from_bytes(bytes: &[u8]) -> Result<Roster<Named>, SheetRefusal>
-    ensures { Reads bytes.now result }
+    ensures read_by_the_grammar { Reads bytes.now result }
 {
     if bytes.len() > LONGEST {
         return Err(by_sheet(Reason::TooLarge).into());
@@ -61,7 +61,7 @@ pub fn from_bytes(bytes: &[u8]) -> Result<Roster<Named>, SheetRefusal>
 
 // Reads a sheet into a roster, in place of what it held. A refused sheet leaves it without lines, on the whole processor.
 pub fn read(roster: &mut Roster<Named>, bytes: &[u8]) -> Result<(), SheetRefusal>
-    ensures { ReadsInto bytes.now roster.new result }
+    ensures reads_or_empties_the_roster { ReadsInto bytes.now roster.new result }
 {
     *roster = Roster::open(Named::Plain(Bottom::Whole(Whole)));
     *roster = from_bytes(bytes)?;

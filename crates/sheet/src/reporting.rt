@@ -65,7 +65,7 @@ fn figures_text(roster: &Roster<Named>) -> Draft
 // The report on a sheet, written over the front of a list: how many lines it has, where they rest first, how many
 // deadlines are watched, and the verdict; or one line that says why the sheet is refused.
 pub fn report(bytes: &[u8], out: &mut [u8]) -> Result<usize, Refusal>
-    ensures { Reported bytes.now out.old out.new result }
+    ensures tells_figures_or_refusal { Reported bytes.now out.old out.new result }
 {
     match from_bytes(bytes) {
         Ok(roster) => figures_text(&roster).hand_over(out),

@@ -20,7 +20,7 @@ fn below(fields: Fields) -> Result<Bottom, Refusal>
 
 // The supply that the fields of a sheet's first record name.
 pub fn supply_of(fields: Fields) -> Result<Named, Refusal>
-    ensures { Answered result (field_checks fields) (λ n. means.named n ≡ supply_of fields) }
+    ensures named_or_refused_by_checks { Answered result (field_checks fields) (λ n. means.named n ≡ supply_of fields) }
 {
     let bottom = below(fields)?;
     if fields.share == 0 && fields.of == 0 {

@@ -11,7 +11,7 @@ use Rattle.std.proofs.lemmas.Result.{err_from_is_err_and}
 pub returns-then-bytes-gt-LONGEST : goal.returns-then-bytes-gt-LONGEST
 returns-then-bytes-gt-LONGEST c =
     let why : c.into.result ≡ refused_at (by_sheet TooLarge) 0 0 = search rules in
-    subst (λ e. TurnedDown c.args.bytes.now e) (sym why) (too_long c.if-bytes-gt-LONGEST.true)
+    record { read_by_the_grammar = subst (λ e. TurnedDown c.args.bytes.now e) (sym why) (too_long c.if-bytes-gt-LONGEST.true) }
 
 pub returns-in_err-supply : goal.returns-in_err-supply
 returns-in_err-supply c =
@@ -19,7 +19,7 @@ returns-in_err-supply c =
     let fault = mapped_err (Opening c.args.bytes.now) _ c.first.result c.in_err-supply.field-0.0 c.in_err-supply.ensures.cases c.first.ensures in
     let mapped = fault.2 in
     let same : c.in_err-supply.field-0.0 ≡ refused_at fault.0 1 0 = search rules in
-    rw (p.1, p.2 ∙ same) (at_first fault.0 c.if-bytes-gt-LONGEST.false fault.1)
+    rw (p.1, p.2 ∙ same) (record { read_by_the_grammar = at_first fault.0 c.if-bytes-gt-LONGEST.false fault.1 })
 
 pub records-requires : goal.records-requires
 records-requires c =

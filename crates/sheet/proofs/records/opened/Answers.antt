@@ -17,4 +17,4 @@ returns c =
     let enough : 11 ≤ length xs = c.in-len11-up.len_at_least in
     let word : c.from_be_bytes.result ≡ (fields_in xs).word = omega (arith, c.from_be_bytes.ensures) in
     let with-word : ℕ → Fields = λ w. record { length = get_or xs 0 0; word = w; share = get_or xs 9 0; of = get_or xs 10 0 } in
-    opened_by _ (drop 11 xs) (fields_in xs) (with-word c.from_be_bytes.result) (spells_opening xs (λ i. (c.type_inv.fields i).fits) enough) (ap with-word word) c.supply_of.result c.supply_of.ensures
+    opened_by _ (drop 11 xs) (fields_in xs) (with-word c.from_be_bytes.result) (spells_opening xs (λ i. (c.type_inv.fields i).fits) enough) (ap with-word word) c.supply_of.result c.supply_of.ensures.named_or_refused_by_checks

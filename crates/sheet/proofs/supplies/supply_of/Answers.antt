@@ -7,4 +7,4 @@ pub returns-in_err-bottom : goal.returns-in_err-bottom
 returns-in_err-bottom c =
     let p = err_from_is_err_and c.from_residual.result c.from_residual.ensures.1 in
     let fields = c.args.fields in
-    rw (p.1, p.2) (refusal_first (bottom_checks fields) (share_checks fields) _ c.in_err-bottom.ensures)
+    rw (p.1, p.2) (record { named_or_refused_by_checks = refusal_first (bottom_checks fields) (share_checks fields) _ c.in_err-bottom.ensures })

@@ -14,7 +14,7 @@ returns-in_err-supply_of c =
     let fields = c.args.fields in
     let room = room_check (length (plain_sheet fields (rows_of c.args.lines.now))) (length c.args.out.now) ∷ [] in
     rw (p.1, p.2) (record {
-      refused_by_checks = refusal_first (field_checks fields) room _ c.in_err-supply_of.ensures;
+      refused_by_checks = refusal_first (field_checks fields) room _ c.in_err-supply_of.ensures.named_or_refused_by_checks;
       list_holds_sheet = refl;
       brings_back_lines = tt;
     })
@@ -23,7 +23,7 @@ pub returns : goal.returns
 returns c =
     let lines = c.args.lines.now in
     let fields = c.args.fields in
-    let named-one = c.in_ok-supply_of.ensures.0 in
+    let named-one = c.in_ok-supply_of.ensures.named_or_refused_by_checks.0 in
     let draft = drafted c.plain_sheet.result in
     let r = c.hand_over.result in
     record {
