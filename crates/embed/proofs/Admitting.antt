@@ -56,10 +56,10 @@ module _ (bytes : List ℕ) where
 
   admitted : VerdictOn bytes None → Admitted bytes
   admitted v = record {
-    fields = v.leaves.fields;
-    records = v.leaves.records;
-    accepted = v.leaves.accepted;
-    met_always = carried _ _ _ _ v.leaves.supply v.leaves.lines (v.exact.fits_exactly.0 refl);
+    fields = v.left_by_the_sheet.fields;
+    records = v.left_by_the_sheet.records;
+    accepted = v.left_by_the_sheet.accepted;
+    met_always = carried _ _ _ _ v.left_by_the_sheet.supply v.left_by_the_sheet.lines (v.exact_on_its_lines.fits_exactly.0 refl);
   }
 
   module _ (roster : Roster Named) (leaves : Leaves bytes roster) (a : Admitted bytes) where
@@ -82,7 +82,7 @@ module _ (bytes : List ℕ) where
 
   -- lines that are overloaded are not met always
   not_admitted : (t : ℕ) → VerdictOn bytes (Some t) → Admitted bytes → ⊥
-  not_admitted t v a = none_is_not_some t (v.exact.fits_exactly.1 (left_met v.roster v.leaves a))
+  not_admitted t v a = none_is_not_some t (v.exact_on_its_lines.fits_exactly.1 (left_met v.roster v.left_by_the_sheet a))
 
   pub fits_exactly : (r : Result (Option ℕ) SheetRefusal) → Judges bytes r → ((verdict_as r).kind ≡ 1) ↔ Admitted bytes
   fits_exactly (Ok None) v = (λ _. admitted v, λ _. refl)
@@ -90,8 +90,8 @@ module _ (bytes : List ℕ) where
   fits_exactly (Err e) turned = (λ k. absurd (omega arith), λ a. absurd (never_accepted e turned a.fields a.records a.accepted))
 
   pub refused_exactly : (r : Result (Option ℕ) SheetRefusal) → Judges bytes r → ((verdict_as r).kind ≡ 0) ↔ ((fields : Fields) (records : List Record) → Accepted bytes fields records → ⊥)
-  refused_exactly (Ok None) v = (λ e. absurd (omega arith), λ never. absurd (never v.leaves.fields v.leaves.records v.leaves.accepted))
-  refused_exactly (Ok (Some t)) v = (λ e. absurd (omega arith), λ never. absurd (never v.leaves.fields v.leaves.records v.leaves.accepted))
+  refused_exactly (Ok None) v = (λ e. absurd (omega arith), λ never. absurd (never v.left_by_the_sheet.fields v.left_by_the_sheet.records v.left_by_the_sheet.accepted))
+  refused_exactly (Ok (Some t)) v = (λ e. absurd (omega arith), λ never. absurd (never v.left_by_the_sheet.fields v.left_by_the_sheet.records v.left_by_the_sheet.accepted))
   refused_exactly (Err e) turned = (λ _. never_accepted e turned, λ _. refl)
 
   -- a run of a legal list that misses a deadline would leave no schedule for it, in a phase that has one

@@ -31,9 +31,9 @@ use Rattle.supply.specs.declared.named.Named.{Named}
 -- A verdict is that of the roster which the sheet leaves, and it is exact.
 pub record VerdictOn (bytes : List ℕ) (verdict : Option ℕ) : Type 0 where
   pub roster : Roster Named
-  pub leaves : Leaves bytes roster
-  pub says : Verdict (named roster.supply) (rows_in roster) (watched_in roster) verdict
-  pub exact : ExactVerdict (named roster.supply) (rows_in roster) verdict
+  pub left_by_the_sheet : Leaves bytes roster
+  pub least_overload_or_none : Verdict (named roster.supply) (rows_in roster) (watched_in roster) verdict
+  pub exact_on_its_lines : ExactVerdict (named roster.supply) (rows_in roster) verdict
 
 -- The verdict on a sheet, or why the sheet is refused.
 abbrev pub Judges : List ℕ → Result (Option ℕ) SheetRefusal → Type 0

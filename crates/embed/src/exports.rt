@@ -9,7 +9,7 @@ use sheet::report;
 // The report on a sheet, written over the front of a list.
 #[unsafe(no_mangle)]
 pub extern "C" fn zucchinicove_report(bytes: &[u8], out: &mut [u8]) -> ReportAnswer
-    ensures { ReportPromise bytes.now out.old out.new result }
+    ensures tells_the_report { ReportPromise bytes.now out.old out.new result }
 {
     report(bytes, out).into()
 }
@@ -17,9 +17,9 @@ pub extern "C" fn zucchinicove_report(bytes: &[u8], out: &mut [u8]) -> ReportAns
 // The verdict on the lines of a sheet.
 #[unsafe(no_mangle)]
 pub extern "C" fn zucchinicove_verdict(bytes: &[u8]) -> VerdictAnswer
-    ensures tells { VerdictPromise bytes.now result }
-    ensures fits { FitsExactly bytes.now result }
-    ensures refused { RefusedExactly bytes.now result }
+    ensures tells_the_verdict { VerdictPromise bytes.now result }
+    ensures fits_exactly_where_all_lists_are_met { FitsExactly bytes.now result }
+    ensures refused_exactly_where_not_accepted { RefusedExactly bytes.now result }
 {
     judge(bytes).into()
 }
@@ -32,8 +32,8 @@ pub extern "C" fn zucchinicove_run(
     jobs: &[Job],
     slots: &mut [u16],
 ) -> RunAnswer
-    ensures tells { RunPromise bytes.now phase jobs.now slots.old slots.new result }
-    ensures admitted { NeverMissed bytes.now jobs.now result }
+    ensures tells_the_run { RunPromise bytes.now phase jobs.now slots.old slots.new result }
+    ensures no_miss_where_it_fits { NeverMissed bytes.now jobs.now result }
 {
     run_on(bytes, phase, jobs, slots).into()
 }

@@ -2,10 +2,10 @@ use Rattle.embed.proofs.calls.judge.Goals as goal
 
 pub returns : goal.returns
 returns c =
-    let leaves = c.in_ok-from_bytes.ensures in
+    let leaves = c.in_ok-from_bytes.ensures.read_by_the_grammar in
     record {
       roster = c.in_ok-from_bytes.field-0;
-      leaves = leaves;
-      says = c.verdict.ensures.says;
-      exact = c.verdict.ensures.exact _ leaves.history;
+      left_by_the_sheet = leaves;
+      least_overload_or_none = c.verdict.ensures.says;
+      exact_on_its_lines = c.verdict.ensures.exact _ leaves.history;
     }
