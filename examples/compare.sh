@@ -25,3 +25,6 @@ done
 for sheet in examples/*.sheet; do
     compare report "$sheet" "${sheet%.sheet}.report"
 done
+
+# An input without an end is longer than a sheet may be, and is refused all the same.
+compare report /dev/zero examples/endless.report
