@@ -59,7 +59,7 @@ module _ (bytes : List ℕ) where
     fields = v.left_by_the_sheet.fields;
     records = v.left_by_the_sheet.records;
     accepted = v.left_by_the_sheet.accepted;
-    met_always = carried _ _ _ _ v.left_by_the_sheet.supply v.left_by_the_sheet.lines (v.exact_on_its_lines.fits_exactly.0 refl);
+    met_always = carried _ _ _ _ v.left_by_the_sheet.supply_is_that_named v.left_by_the_sheet.lines_after_its_calls (v.exact_on_its_lines.fits_exactly.0 refl);
   }
 
   module _ (roster : Roster Named) (leaves : Leaves bytes roster) (a : Admitted bytes) where
@@ -68,10 +68,10 @@ module _ (bytes : List ℕ) where
     spells_same = same_fields leaves.fields a.fields leaves.records a.records (one_reading bytes (accepted leaves.fields leaves.records) (accepted a.fields a.records) leaves.accepted a.accepted)
 
     supply_spelled : supply_of a.fields ≡ named roster.supply
-    supply_spelled = sym (leaves.supply ∙ ap supply_of spells_same.0)
+    supply_spelled = sym (leaves.supply_is_that_named ∙ ap supply_of spells_same.0)
 
     lines_spelled : rows_through [] (calls_of a.records) ≡ rows_in roster
-    lines_spelled = sym (leaves.lines ∙ ap (λ rs. rows_through [] (calls_of rs)) spells_same.1)
+    lines_spelled = sym (leaves.lines_after_its_calls ∙ ap (λ rs. rows_through [] (calls_of rs)) spells_same.1)
 
     -- so its lines are met always
     left_met : MetAlways (named roster.supply) (rows_in roster)

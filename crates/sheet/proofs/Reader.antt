@@ -98,11 +98,11 @@ module _ (roster : Roster Named) (bytes : List ℕ) (at before : ℕ) (g : Going
             fields = g.fields;
             records = g.records;
             accepted = all;
-            supply = g.supply;
-            lines = g.lines;
-            watched = g.watched;
-            history = subst (λ m. Reached m (calls_of g.records) (rows_in roster) (watched_in roster)) (sym g.supply) (subst (λ rows. Reached (supply_of g.fields) (calls_of g.records) rows (watched_in roster)) (sym g.lines) (subst (λ watched. Reached (supply_of g.fields) (calls_of g.records) (rows_through [] (calls_of g.records)) watched) (sym g.watched) reached));
-            rewritten = λ rows plain. good.bytes_are ∙ ap (sheet g.fields) (plain ∙ ap (map line) (sym (g.lines ∙ ap (λ rs. rows_through [] (calls_of rs)) plain ∙ plain_lines rows)));
+            supply_is_that_named = g.supply;
+            lines_after_its_calls = g.lines;
+            watched_after_its_calls = g.watched;
+            calls_are_its_history = subst (λ m. Reached m (calls_of g.records) (rows_in roster) (watched_in roster)) (sym g.supply) (subst (λ rows. Reached (supply_of g.fields) (calls_of g.records) rows (watched_in roster)) (sym g.lines) (subst (λ watched. Reached (supply_of g.fields) (calls_of g.records) (rows_through [] (calls_of g.records)) watched) (sym g.watched) reached));
+            lines_alone_are_rewritten = λ rows plain. good.bytes_are ∙ ap (sheet g.fields) (plain ∙ ap (map line) (sym (g.lines ∙ ap (λ rs. rows_through [] (calls_of rs)) plain ∙ plain_lines rows)));
           }
 
 -- behind the first record: a roster that was opened over the supply that it names

@@ -38,7 +38,7 @@ module _ (lines : Lines) (fields : Fields) (named-one : refusal_of (field_checks
   brought_back (Ok roster) leaves =
       let own = written_accepted fields rows named-one (holdable lines) in
       let same = same_fields leaves.fields fields leaves.records (map line rows) (one_reading (plain_sheet fields rows) (accepted leaves.fields leaves.records) (accepted fields (map line rows)) leaves.accepted own) in
-      (leaves.lines ∙ ap (λ rs. rows_through [] (calls_of rs)) same.1 ∙ plain_lines rows, leaves.supply ∙ ap supply_of same.0)
+      (leaves.lines_after_its_calls ∙ ap (λ rs. rows_through [] (calls_of rs)) same.1 ∙ plain_lines rows, leaves.supply_is_that_named ∙ ap supply_of same.0)
   brought_back (Err e) turned =
       let own = written_accepted fields rows named-one (holdable lines) in
       never_refused fields (map line rows) e.refusal e.«record» e.byte (one_reading (plain_sheet fields rows) (refused e.refusal e.«record» e.byte) (accepted fields (map line rows)) turned own)

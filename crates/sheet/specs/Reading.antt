@@ -21,13 +21,13 @@ pub record Leaves (bytes : List ℕ) (roster : Roster Named) : Type 0 where
   pub records : List Record
   pub accepted : Accepted bytes fields records
   -- the supply that it names, and the lines and the watch list after its calls
-  pub supply : named roster.supply ≡ supply_of fields
-  pub lines : rows_in roster ≡ rows_through [] (calls_of records)
-  pub watched : watched_in roster ≡ watched_through [] [] (calls_of records)
+  pub supply_is_that_named : named roster.supply ≡ supply_of fields
+  pub lines_after_its_calls : rows_in roster ≡ rows_through [] (calls_of records)
+  pub watched_after_its_calls : watched_in roster ≡ watched_through [] [] (calls_of records)
   -- so its calls are a history of the roster, from an opening
-  pub history : Reached (named roster.supply) (calls_of records) (rows_in roster) (watched_in roster)
+  pub calls_are_its_history : Reached (named roster.supply) (calls_of records) (rows_in roster) (watched_in roster)
   -- and a sheet of lines alone is what writing these lines gives
-  pub rewritten : (rows : List Row) → records ≡ map line rows → bytes ≡ sheet fields (map line (rows_in roster))
+  pub lines_alone_are_rewritten : (rows : List Row) → records ≡ map line rows → bytes ≡ sheet fields (map line (rows_in roster))
 
 -- A refusal at the record with a number, which begins at a byte; 0 and 0 where it is about no record.
 abbrev pub refused_at : Refusal → (number byte : ℕ) → SheetRefusal
@@ -44,9 +44,9 @@ Reads bytes (Err e) = TurnedDown bytes e
 
 -- A roster without lines, on the whole processor.
 pub record Empty (roster : Roster Named) : Type 0 where
-  pub supply : named roster.supply ≡ whole
-  pub lines : rows_in roster ≡ []
-  pub watched : watched_in roster ≡ []
+  pub on_the_whole_processor : named roster.supply ≡ whole
+  pub holds_no_line : rows_in roster ≡ []
+  pub watches_nothing : watched_in roster ≡ []
 
 -- A sheet is read into a roster, which a refused one leaves without lines.
 abbrev pub ReadsInto : List ℕ → Roster Named → Result (Unit {0}) SheetRefusal → Type 0

@@ -7,5 +7,5 @@ returns c =
       roster = c.in_ok-from_bytes.field-0;
       left_by_the_sheet = leaves;
       least_overload_or_none = c.verdict.ensures.says;
-      exact_on_its_lines = c.verdict.ensures.exact _ leaves.history;
+      exact_on_its_lines = c.verdict.ensures.exact _ leaves.calls_are_its_history;
     }

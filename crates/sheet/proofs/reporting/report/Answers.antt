@@ -9,7 +9,7 @@ returns-in-Ok c =
     record {
       tells_figures_or_refusal = record {
         text = _;
-        tells_the_sheet = subst (λ text. Reports c.args.bytes.now text) (sym tells.text_is_figures_and_verdict) (accepted c.in-Ok.roster tells.verdict leaves tells.least_overload_or_none (tells.exact_after_any_calls _ leaves.history));
+        tells_the_sheet = subst (λ text. Reports c.args.bytes.now text) (sym tells.text_is_figures_and_verdict) (accepted c.in-Ok.roster tells.verdict leaves tells.least_overload_or_none (tells.exact_after_any_calls _ leaves.calls_are_its_history));
         at_most_96_bytes = c.hand_over.ensures.room;
         refused_where_list_is_too_short = c.hand_over.ensures.answer;
         list_holds_text = c.hand_over.ensures.list;
