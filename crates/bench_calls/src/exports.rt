@@ -15,7 +15,7 @@ use supply::{Share, Supply, Timetable, Whole};
 // The verdict on lines on the whole processor.
 #[unsafe(no_mangle)]
 pub extern "C" fn bench_whole(lines: &[Figures], times: u32) -> Verdicts
-    ensures { (v : Option (Option ℕ)) × Judged (Unit {0}) whole lines.now v × (result ≡ verdicts_as v) }
+    ensures judged_exactly_where_full { (v : Option (Option ℕ)) × Judged (Unit {0}) whole lines.now v × (result ≡ verdicts_as v) }
 {
     judge(Whole, lines, times).into()
 }
@@ -29,7 +29,7 @@ fn on_timetable(length: u8, word: u64, lines: &[Figures], times: u32) -> Option<
 
 #[unsafe(no_mangle)]
 pub extern "C" fn bench_timetable(length: u8, word: u64, lines: &[Figures], times: u32) -> Verdicts
-    ensures { (v : Option (Option ℕ)) × Judged (LawfulTimetable length word) (timetable length word) lines.now v × (result ≡ verdicts_as v) }
+    ensures judged_exactly_where_makeable_and_full { (v : Option (Option ℕ)) × Judged (LawfulTimetable length word) (timetable length word) lines.now v × (result ≡ verdicts_as v) }
 {
     on_timetable(length, word, lines, times).into()
 }
@@ -68,12 +68,12 @@ pub extern "C" fn bench_pile(
     lines: &[Figures],
     times: u32,
 ) -> Verdicts
-    ensures { (v : Option (Option ℕ)) × Judged ((1 ≤ shares) × (shares ≤ 3) × Piles given of shares) (piled given of shares) lines.now v × (result ≡ verdicts_as v) }
+    ensures judged_exactly_where_makeable_and_full { (v : Option (Option ℕ)) × Judged ((1 ≤ shares) × (shares ≤ 3) × Piles given of shares) (piled given of shares) lines.now v × (result ≡ verdicts_as v) }
 {
     on_pile(shares, given, of, lines, times).into()
 }
 
-// Runs a list of jobs on the whole processor, and fills the slot list.
+// Runs a list of jobs on the whole processor, and fills the slot list; where nothing is run, it stays.
 #[unsafe(no_mangle)]
 pub extern "C" fn bench_run(
     lines: &[Figures],
@@ -81,7 +81,7 @@ pub extern "C" fn bench_run(
     slots: &mut [u16],
     times: u32,
 ) -> RunEnd
-    ensures { (o : Option outcome.Outcome) × Ran lines.now jobs.now slots.new o × (result ≡ end_as o) }
+    ensures run_exactly_where_full_and_no_check_fails { (o : Option outcome.Outcome) × Ran lines.now jobs.now slots.old slots.new o × (result ≡ end_as o) }
 {
     run(lines, jobs, slots, times).into()
 }
@@ -89,7 +89,7 @@ pub extern "C" fn bench_run(
 // Opens a roster on the whole processor, enrols lines, and answers how many deadlines are watched then.
 #[unsafe(no_mangle)]
 pub extern "C" fn bench_enrol(lines: &[Figures]) -> usize
-    ensures { (watched : Option ℕ) × Watches lines.now watched × (result ≡ unwrap_or watched 0) }
+    ensures counts_watched_of_a_full_table { (watched : Option ℕ) × Watches lines.now watched × (result ≡ unwrap_or watched 0) }
 {
     enrol(lines).unwrap_or(0)
 }

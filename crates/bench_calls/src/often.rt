@@ -23,9 +23,9 @@ pub(crate) fn judge<S: Supply + Drop>(
     Some(verdict)
 }
 
-// Runs a list of jobs on the whole processor, `times` times and at least once.
+// Runs a list of jobs on the whole processor, `times` times and at least once. Where a check fails, each run leaves the slots.
 pub(crate) fn run(lines: &[Figures], jobs: &[Job], slots: &mut [u16], times: u32) -> Option<Outcome>
-    ensures { Ran lines.now jobs.now slots.new result }
+    ensures { Ran lines.now jobs.now slots.old slots.new result }
 {
     let calls = enrolments(lines.try_into().ok()?);
     let (roster, _) = judged(Whole, &calls);
