@@ -24,8 +24,10 @@ fn main(rt: HostRuntime) -> anyhow::Result<()> {
             supplies::timetables(),
             supplies::piles(),
             refused::compared(),
-            worded::numbers(),
-            worded::texts(rt.alloc())?,
+            worded::reasons(rt.alloc()),
+            worded::layers(rt.alloc()),
+            worded::ends(rt.alloc()),
+            worded::refusals(rt.alloc())?,
         ],
     )?;
     sets::compare(&rt)
