@@ -1,15 +1,17 @@
 #!/bin/sh
 # Proves and builds the console and the sheet program, gives them each visit and each sheet that lies here, and holds what they
-# print to what is stored beside it.
+# print to what is stored beside it. With --over-gate it takes the programs that `rt ci` has just left in crates/*/out.
 set -eu
 cd "$(dirname "$0")/.."
 out=target/examples
 mkdir -p "$out"
 
 # A run builds each program, which is then started by itself.
-for program in console report; do
-    (cd "crates/$program" && rt run </dev/null >/dev/null)
-done
+if [ "${1:-}" != --over-gate ]; then
+    for program in console report; do
+        (cd "crates/$program" && rt run </dev/null >/dev/null)
+    done
+fi
 
 # Gives a program an example, and compares what it prints.
 compare() {

@@ -151,7 +151,7 @@ static ENDS: [(Outcome, &str); 3] = [
     ),
 ];
 
-// Whether a value reads as a text. One of which nothing can be written does not.
+// Whether a value reads as a text. Where writing it fails, it does not, whatever was written by then.
 fn reads<T: fmt::Display>(heap: Global, value: &T, text: &str) -> bool {
     match value.to_string(heap) {
         Ok(written) => written.as_str() == text,
