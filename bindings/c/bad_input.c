@@ -8,8 +8,22 @@
 
 #include "zucchinicove.h"
 
-_Static_assert(sizeof(zucchinicove_job) == 6 && offsetof(zucchinicove_job, release) == 2, "the layout of a job");
-_Static_assert(sizeof(zucchinicove_refused) == 16 && offsetof(zucchinicove_refused, place) == 4, "the layout of a refusal");
+#define AT(type, field) offsetof(zucchinicove_##type, field)
+
+_Static_assert(sizeof(zucchinicove_job) == 6 && AT(job, line) == 0 && AT(job, release) == 2 && AT(job, cost) == 4,
+               "the layout of a job");
+_Static_assert(sizeof(zucchinicove_refused) == 16 && AT(refused, number) == 0 && AT(refused, layer) == 1 && AT(refused, place) == 4 &&
+                   AT(refused, record) == 8 && AT(refused, byte) == 12,
+               "the layout of a refusal");
+_Static_assert(sizeof(zucchinicove_report_answer) == 32 && AT(report_answer, kind) == 0 && AT(report_answer, length) == 8 &&
+                   AT(report_answer, refused) == 16,
+               "the layout of the answer of a report");
+_Static_assert(sizeof(zucchinicove_verdict_answer) == 20 && AT(verdict_answer, kind) == 0 && AT(verdict_answer, deadline) == 2 &&
+                   AT(verdict_answer, refused) == 4,
+               "the layout of a verdict");
+_Static_assert(sizeof(zucchinicove_run_answer) == 24 && AT(run_answer, kind) == 0 && AT(run_answer, job) == 2 && AT(run_answer, at) == 4 &&
+                   AT(run_answer, refused) == 8,
+               "the layout of how a run ends");
 
 /* Records whose figures are below 256: a supply by length, number and share, a line, a certificate and its cites, and the last
  * record. */
@@ -54,6 +68,18 @@ static void *taken(size_t length)
 static void *copied(const void *from, size_t length)
 {
     return length > 0 ? memcpy(taken(length), from, length) : NULL;
+}
+
+/* A copy of jobs, with the mark in the byte between two fields of a job, which means nothing. */
+static zucchinicove_job *copied_jobs(const zucchinicove_job *from, size_t length)
+{
+    zucchinicove_job *to = length > 0 ? memset(taken(length * sizeof *to), MARK, length * sizeof *to) : NULL;
+    for (size_t i = 0; i < length; i++) {
+        to[i].line = from[i].line;
+        to[i].release = from[i].release;
+        to[i].cost = from[i].cost;
+    }
+    return to;
 }
 
 /* A list between guards, all marked. */
@@ -145,7 +171,7 @@ static void try_run(uint32_t phase, const zucchinicove_job *jobs, size_t length,
 {
     zucchinicove_refused why = {number, ZUCCHINICOVE_LAYER_RUN, place, 0, 0};
     uint8_t *sheet = copied(good, sizeof good);
-    zucchinicove_job *lent = copied(jobs, length * sizeof *jobs);
+    zucchinicove_job *lent = copied_jobs(jobs, length);
     uint8_t *slots = guarded(2 * room);
     zucchinicove_run_answer answer =
         zucchinicove_run(sheet, sizeof good, phase, lent, length, room > 0 ? (uint16_t *)slots : NULL, room);
@@ -163,6 +189,25 @@ static void try_run(uint32_t phase, const zucchinicove_job *jobs, size_t length,
     free(slots - GUARD);
     free(lent);
     free(sheet);
+}
+
+/* In the largest phase of a timetable of 11 slots that gives the first one, 8 and 19 are given: 4,294,967,295 is 3 above a multiple
+ * of 11. Cut to two bytes the phase would be 8 above one, and cut to one byte 2. */
+static void try_largest_phase(const char *what)
+{
+    static const uint8_t sheet[] = {SUPPLY(11, 1, 0, 0), LINE(22, 22, 1), END(2)};
+    static const zucchinicove_job single = {0, 0, 1};
+    uint16_t entries[22];
+    for (size_t s = 0; s < 22; s++)
+        entries[s] = ZUCCHINICOVE_SLOT_NOT_GIVEN;
+    entries[8] = 1;
+    entries[19] = ZUCCHINICOVE_SLOT_IDLE;
+    uint8_t *slots = guarded(sizeof entries);
+    zucchinicove_run_answer answer = zucchinicove_run(sheet, sizeof sheet, UINT32_MAX, &single, 1, (uint16_t *)slots, 22);
+    check(answer.kind == ZUCCHINICOVE_MET, what, "the answer of the run");
+    check(memcmp(slots, entries, sizeof entries) == 0, what, "the slots of the run");
+    check(guards_stand(slots, sizeof entries), what, "the guards of the run");
+    free(slots - GUARD);
 }
 
 static void reports(void)
@@ -309,6 +354,7 @@ static void runs(void)
     try_run(0, &first, 1, 4, 13, 5, "a slot list too short by one");
     try_run(0, &first, 1, 5, 0, 0, "a slot list just long enough");
     try_run(UINT32_MAX, &first, 1, 6, 0, 0, "the largest phase");
+    try_largest_phase("the largest phase of a timetable");
     try_run(0, &absent, 1, 12, 14, 0, "a line that is absent");
     try_run(0, second, 2, 12, 14, 1, "a line that is absent, of the second job");
     try_run(0, &far, 1, 12, 14, 0, "a job of the largest numbers");
