@@ -1,6 +1,7 @@
 #!/bin/sh
 # Proves and builds the static library over the libraries that `rt ci` has just left in crates/*/out: over_gate.sh FOLDER, where the
-# archive goes. `rt lib` would build those libraries anew, as it keeps its own. Nothing here looks whether they still fit the sources.
+# archive goes, with what its check keeps for the next one. `rt lib` would build those libraries anew, as it takes only its own. Nothing
+# here looks whether they fit the sources, as those of a gate that has just passed do.
 set -eu
 mkdir -p "$1"
 made=$(cd "$1" && pwd)
@@ -13,8 +14,9 @@ done
 for folder in ../*/out/rlib; do
     set -- "$@" -L "dependency=$folder"
 done
-"$kit/bin/rattle" build "$@" --antt-project "$kit/rattle/logic/antt-project.json" --logic-built "$kit/logic_built" --jobs 2 --incremental "$made/incremental" \
-    --toolchain "$kit/toolchain" --backend llvm -o "$made/libembed.a" src/lib.rt >"$made/log" 2>&1 || {
+set -- "$@" --antt-project "$kit/rattle/logic/antt-project.json" --logic-built "$kit/logic_built" --incremental "$made/incremental"
+set -- "$@" --jobs 2 --toolchain "$kit/toolchain" --backend llvm -o "$made/libembed.a"
+"$kit/bin/rattle" build "$@" src/lib.rt >"$made/log" 2>&1 || {
     cat "$made/log" >&2
     exit 1
 }
