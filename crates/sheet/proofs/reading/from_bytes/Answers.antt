@@ -24,4 +24,4 @@ returns-in_err-supply c =
 pub records-requires : goal.records-requires
 records-requires c =
     let opens = mapped_ok (Opening c.args.bytes.now) c.first.result (Ok c.in_ok-supply.supply) c.in_ok-supply.ensures.cases c.first.ensures in
-    (going_first c.open.result c.args.bytes.now c.in_ok-supply.supply opens c.open.ensures.supply c.open.ensures.lines c.open.ensures.watched, c.if-bytes-gt-LONGEST.false)
+    (going_first c.open.result c.args.bytes.now c.in_ok-supply.supply opens c.open.ensures.takes_the_supply c.open.ensures.holds_no_line c.open.ensures.watches_nothing, c.if-bytes-gt-LONGEST.false)

@@ -27,11 +27,11 @@ returns-in_err-cut c =
     let n = get_or xs 4 0 in
     let p = err_from_is_err_and c.from_residual.result c.from_residual.ensures.1 in
     let enough : 5 + 4 * n ≤ length xs = omega (arith, c.if-cites-length.false, ap length (take_rest xs 5), length-drop 5 xs, c.from-length.ensures, ltb-true, ltb-false) in
-    rw (p.1, p.2) (refused c.args.roster.now _ _ (drop (4 * n) (drop 5 xs)) (certificate_in xs) (spells_certificate xs (λ i. (c.type_inv.fields i).fits) enough) _ (λ i. cut (c.from_be_bytes-deadline.ensures i) (c.from_be_bytes-divisor.ensures i) (cites_of (cites_handed xs c.from-length.result c.from-length.ensures i))) _ _ c.in_err-cut.ensures)
+    rw (p.1, p.2) (refused c.args.roster.now _ _ (drop (4 * n) (drop 5 xs)) (certificate_in xs) (spells_certificate xs (λ i. (c.type_inv.fields i).fits) enough) _ (λ i. cut (c.from_be_bytes-deadline.ensures i) (c.from_be_bytes-divisor.ensures i) (cites_of (cites_handed xs c.from-length.result c.from-length.ensures i))) _ _ c.in_err-cut.ensures.deadline_leaves_or_refused_by_checks)
 
 pub returns : goal.returns
 returns c =
     let xs = c.args.fields.now in
     let n = get_or xs 4 0 in
     let enough : 5 + 4 * n ≤ length xs = omega (arith, c.if-cites-length.false, ap length (take_rest xs 5), length-drop 5 xs, c.from-length.ensures, ltb-true, ltb-false) in
-    taken c.args.roster.now _ _ (drop (4 * n) (drop 5 xs)) (certificate_in xs) (spells_certificate xs (λ i. (c.type_inv.fields i).fits) enough) _ (λ i. cut (c.from_be_bytes-deadline.ensures i) (c.from_be_bytes-divisor.ensures i) (cites_of (cites_handed xs c.from-length.result c.from-length.ensures i))) _ _ (7 + 4 * c.from-length.result) (omega (arith, certificate_length xs (λ i. (c.type_inv.fields i).fits) enough, c.from-length.ensures)) c.in_ok-cut.ensures
+    taken c.args.roster.now _ _ (drop (4 * n) (drop 5 xs)) (certificate_in xs) (spells_certificate xs (λ i. (c.type_inv.fields i).fits) enough) _ (λ i. cut (c.from_be_bytes-deadline.ensures i) (c.from_be_bytes-divisor.ensures i) (cites_of (cites_handed xs c.from-length.result c.from-length.ensures i))) _ _ (7 + 4 * c.from-length.result) (omega (arith, certificate_length xs (λ i. (c.type_inv.fields i).fits) enough, c.from-length.ensures)) c.in_ok-cut.ensures.deadline_leaves_or_refused_by_checks

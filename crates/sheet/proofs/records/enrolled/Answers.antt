@@ -18,10 +18,10 @@ returns-in_err-enrol c =
     let xs = c.args.fields.now in
     let p = err_from_is_err_and c.from_residual.result c.from_residual.ensures.1 in
     let enough : 6 ≤ length xs = c.in-len6-up.len_at_least in
-    rw (p.1, p.2) (refused c.args.roster.now _ _ (drop 6 xs) (line (row_in xs)) (spells_line xs (λ i. (c.type_inv.fields i).fits) enough) _ (cc) _ _ c.in_err-enrol.ensures)
+    rw (p.1, p.2) (refused c.args.roster.now _ _ (drop 6 xs) (line (row_in xs)) (spells_line xs (λ i. (c.type_inv.fields i).fits) enough) _ (cc) _ _ c.in_err-enrol.ensures.added_last_or_refused_by_checks)
 
 pub returns : goal.returns
 returns c =
     let xs = c.args.fields.now in
     let enough : 6 ≤ length xs = c.in-len6-up.len_at_least in
-    taken c.args.roster.now _ _ (drop 6 xs) (line (row_in xs)) (spells_line xs (λ i. (c.type_inv.fields i).fits) enough) _ (cc) _ _ 8 refl c.in_ok-enrol.ensures
+    taken c.args.roster.now _ _ (drop 6 xs) (line (row_in xs)) (spells_line xs (λ i. (c.type_inv.fields i).fits) enough) _ (cc) _ _ 8 refl c.in_ok-enrol.ensures.added_last_or_refused_by_checks
