@@ -2,7 +2,7 @@
 ghost use Rattle.bench_calls.specs.Promises.{Judged, Ran, Watches};
 
 use crate::figures::{Figures, enrolments};
-use roster::{after, judged};
+use roster::{JudgedRoster, after, judged};
 use run::{Job, Outcome};
 use std::hint::black_box;
 use supply::{Supply, Whole};
@@ -16,7 +16,7 @@ pub(crate) fn judge<S: Supply + Drop>(
     ensures { Judged (Unit {0}) (S.meaning supply) lines.now result }
 {
     let calls = enrolments(lines.try_into().ok()?);
-    let (roster, verdict) = judged(supply, &calls);
+    let JudgedRoster { roster, verdict } = judged(supply, &calls);
     for _ in 1..times {
         let _ = black_box(roster.verdict());
     }
@@ -28,7 +28,7 @@ pub(crate) fn run(lines: &[Figures], jobs: &[Job], slots: &mut [u16], times: u32
     ensures { Ran lines.now jobs.now slots.old slots.new result }
 {
     let calls = enrolments(lines.try_into().ok()?);
-    let (roster, _) = judged(Whole, &calls);
+    let JudgedRoster { roster, .. } = judged(Whole, &calls);
     for _ in 1..times {
         let _ = roster.run(0, jobs, slots);
     }
