@@ -5,7 +5,7 @@ use run::Job;
 
 // Whether a line may release a job at an instant behind others: each of its jobs came a period before.
 pub fn may_release(jobs: &[Job], line: u8, period: u16, at: u16) -> bool
-    ensures { result ≡ list_all (λ job. nat_le (job.release + period) at) (filter (λ job. job.line == line) jobs.now) }
+    ensures each_came_a_period_before { result ≡ list_all (λ job. nat_le (job.release + period) at) (filter (λ job. job.line == line) jobs.now) }
 {
     jobs.iter().filter(|job| job.line == line).all(|job| u32::from(job.release) + u32::from(period)
         <= u32::from(at))

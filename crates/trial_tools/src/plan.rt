@@ -43,7 +43,7 @@ impl Plan {
 
     // The supply of these numbers, unless they are unlawful: 1 in 1 is no share.
     pub fn named(self) -> Option<Named>
-        ensures { MakesPlan self result }
+        ensures made_exactly_where_lawful { MakesPlan self result }
     {
         let below = self.bottom()?;
         if self.turn == 1 {

@@ -11,29 +11,29 @@ pub trait Generator {
 
     // The next number.
     fn next(&mut self) -> u64
-        ensures state { self.new ≡ after self.old }
-        ensures number { result ≡ number self.old };
+        ensures takes_the_next_state { self.new ≡ after self.old }
+        ensures number_of_that_state { result ≡ number self.old };
 
     // A number below n, and 0 where n is 0.
     fn below(&mut self, n: u16) -> u16
-        ensures state { self.new ≡ after self.old }
-        ensures number { result ≡ number self.old % max n 1 }
+        ensures takes_the_next_state { self.new ≡ after self.old }
+        ensures number_below_n { result ≡ number self.old % max n 1 }
     {
         (self.next() % u64::from(n.max(1))) as u16
     }
 
     // A number from 1 to n, and 1 where n is 0.
     fn up_to(&mut self, n: u16) -> u16
-        ensures state { self.new ≡ after self.old }
-        ensures number { result ≡ number self.old % max n 1 + 1 }
+        ensures takes_the_next_state { self.new ≡ after self.old }
+        ensures number_from_1_to_n { result ≡ number self.old % max n 1 + 1 }
     {
         self.below(n) + 1
     }
 
     // One of a list, and 0 of none.
     fn of(&mut self, list: &[u16]) -> u16
-        ensures state { self.new ≡ after self.old }
-        ensures number { length list.now < 2 ^ 16 → result ≡ slice_index_or list.now (number self.old % max (length list.now) 1) 0 }
+        ensures takes_the_next_state { self.new ≡ after self.old }
+        ensures one_of_the_list { length list.now < 2 ^ 16 → result ≡ slice_index_or list.now (number self.old % max (length list.now) 1) 0 }
     {
         let many = list.len().min(0xffff) as u16;
         let place = usize::from(self.below(many));
@@ -42,10 +42,10 @@ pub trait Generator {
 
     // A line of a period, due within it, with a cost up to a bound.
     fn row(&mut self, period: u16, dearest: u16) -> Row
-        ensures period { result.period ≡ period }
-        ensures deadline { result.deadline ≡ number self.old % max period 1 + 1 }
-        ensures cost { result.cost ≡ number (after self.old) % max dearest 1 + 1 }
-        ensures state { self.new ≡ after (after self.old) }
+        ensures of_that_period { result.period ≡ period }
+        ensures due_within_the_period { result.deadline ≡ number self.old % max period 1 + 1 }
+        ensures cost_up_to_the_dearest { result.cost ≡ number (after self.old) % max dearest 1 + 1 }
+        ensures takes_two_states { self.new ≡ after (after self.old) }
     {
         Row {
             period,
@@ -64,7 +64,7 @@ pub struct Random {
 impl Random {
     // A generator that starts from a seed.
     pub fn new(seed: u32) -> Random
-        ensures { result.state ≡ seed }
+        ensures starts_from_the_seed { result.state ≡ seed }
     {
         Random { state: seed }
     }
@@ -93,15 +93,15 @@ pub struct Steps {
 impl Steps {
     // Steps that start from a seed.
     pub fn new(seed: u64) -> Steps
-        ensures { result.state ≡ seed }
+        ensures starts_from_the_seed { result.state ≡ seed }
     {
         Steps { state: seed }
     }
 
     // The next state.
     pub fn step(&mut self) -> u64
-        ensures state { self.new.state ≡ (self.old.state * 6364136223846793005 + 1442695040888963407) % 2 ^ 64 }
-        ensures answer { result ≡ self.new.state }
+        ensures takes_the_next_state { self.new.state ≡ (self.old.state * 6364136223846793005 + 1442695040888963407) % 2 ^ 64 }
+        ensures answers_that_state { result ≡ self.new.state }
     {
         self.state = self
             .state
@@ -120,7 +120,7 @@ pub struct Upper<const BELOW: u64, const END: u64> {
 impl<const BELOW: u64, const END: u64> Upper<BELOW, END> {
     // Numbers of the steps that start from a seed.
     pub fn new(seed: u64) -> Upper<BELOW, END>
-        ensures { result.steps.state ≡ seed }
+        ensures starts_from_the_seed { result.steps.state ≡ seed }
     {
         Upper {
             steps: Steps::new(seed),

@@ -13,9 +13,9 @@ pub struct Tally {
 impl Tally {
     // A group of which nothing is compared yet.
     pub fn of(group: &'static str) -> Tally
-        ensures group { result.group.now ≡ group.now }
-        ensures compared { result.compared ≡ 0 }
-        ensures differ { result.differ ≡ 0 }
+        ensures of_that_group { result.group.now ≡ group.now }
+        ensures nothing_compared { result.compared ≡ 0 }
+        ensures nothing_differs { result.differ ≡ 0 }
     {
         Tally {
             group,
@@ -26,10 +26,10 @@ impl Tally {
 
     // One comparison more, and whether it came out the same.
     pub fn note(&mut self, same: bool)
-        ensures group { self.new.group.now ≡ self.old.group.now }
-        ensures compared { self.old.compared + 1 < 2 ^ 64 → self.new.compared ≡ self.old.compared + 1 }
-        ensures same { same ≡ true → self.new.differ ≡ self.old.differ }
-        ensures other { same ≡ false → self.old.differ + 1 < 2 ^ 64 → self.new.differ ≡ self.old.differ + 1 }
+        ensures keeps_the_group { self.new.group.now ≡ self.old.group.now }
+        ensures counts_one_comparison { self.old.compared + 1 < 2 ^ 64 → self.new.compared ≡ self.old.compared + 1 }
+        ensures same_counts_no_difference { same ≡ true → self.new.differ ≡ self.old.differ }
+        ensures other_counts_one_difference { same ≡ false → self.old.differ + 1 < 2 ^ 64 → self.new.differ ≡ self.old.differ + 1 }
     {
         self.compared = self.compared.saturating_add(1);
         if !same {
@@ -47,7 +47,7 @@ impl fmt::Display for Tally {
     }
 }
 
-// Prints some groups, each on a line. It only prints, and promises nothing that a clause could name.
+// Prints some groups, each on a line. (No clause: the library promises nothing of what a `Print` lets out.)
 pub fn print(rt: &impl Print, groups: &[Tally]) -> io::Result<()> {
     for group in groups {
         println!(rt; "{group}")?;

@@ -12,7 +12,7 @@ impl Watched {
 
     // Whether a watch list is as it is known.
     pub fn are(&self, list: &WatchList) -> bool
-        ensures { IsTrue result ↔ Are self.now list.now }
+        ensures exactly_where_as_known { IsTrue result ↔ Are self.now list.now }
     {
         match self {
             Watched::These(deadlines) => list.as_slice() == *deadlines,
