@@ -1,3 +1,7 @@
+ghost use Rattle.lines.specs.Of.{rows_of};
+ghost use Rattle.std.specs.Prelude.{Some};
+ghost use Rattle.texts.specs.Surveys.{counts_text};
+
 use lines::Lines;
 use std::fmt;
 
@@ -9,6 +13,8 @@ pub struct Counts<'a> {
 }
 
 impl<'a> fmt::Display for Counts<'a> {
+    ghost output = { λ counts. Some (counts_text counts.at (rows_of counts.lines.now)) };
+
     fn fmt<W: fmt::Write>(&self, f: &mut fmt::Formatter<W>) -> fmt::Result {
         for line in self.lines.iter() {
             let count = line.count(self.at);

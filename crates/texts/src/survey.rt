@@ -1,3 +1,8 @@
+ghost use Rattle.lines.specs.Of.{rows_of};
+ghost use Rattle.std.specs.Fmt.{WritesOnOk};
+ghost use Rattle.std.specs.Prelude.{Some};
+ghost use Rattle.texts.specs.Surveys.{instant_text, survey_text};
+
 use crate::counts::Counts;
 use lines::Lines;
 use std::fmt;
@@ -13,7 +18,9 @@ pub struct Survey<'a, S> {
 
 impl<'a, S: Supply> Survey<'a, S> {
     // What is asked for by an instant, and what is given.
-    fn row<W: fmt::Write>(&self, f: &mut fmt::Formatter<W>, at: u16) -> fmt::Result {
+    fn row<W: fmt::Write>(&self, f: &mut fmt::Formatter<W>, at: u16) -> fmt::Result
+        ensures { WritesOnOk W.write_str_gives f.old result (instant_text (S.meaning self.now.supply.now) (rows_of self.now.lines.now) at) f.new }
+    {
         let counts = Counts {
             lines: self.lines,
             at,
@@ -25,6 +32,8 @@ impl<'a, S: Supply> Survey<'a, S> {
 }
 
 impl<'a, S: Supply> fmt::Display for Survey<'a, S> {
+    ghost output = { λ survey. Some (survey_text (S.meaning survey.supply.now) (rows_of survey.lines.now) survey.watched.now) };
+
     fn fmt<W: fmt::Write>(&self, f: &mut fmt::Formatter<W>) -> fmt::Result {
         let rest = self.lines.first_rest();
         let many = self.watched.len();
