@@ -9,7 +9,8 @@ pub trait Obey {
     fn obey(&mut self, name: &str, words: &[&str]) -> Result<String, Trouble>;
 }
 
-// Answers each line as it comes, to the end of the input. It only hands the lines on and prints, and promises nothing of it.
+// Answers each line as it comes, to the end of the input. (No clause: it only hands lines on and prints, and the library promises
+// nothing of what is read or let out.)
 pub fn converse<R: Input + Print + AllocGlobal, S: Obey>(
     rt: &R,
     session: &mut S,

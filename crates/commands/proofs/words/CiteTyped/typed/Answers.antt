@@ -1,0 +1,6 @@
+-- The search that closes it is named, so that a wrong body is refused without the longer ones.
+use Rattle.std.proofs.Common.{rules}
+use Rattle.commands.proofs.words.CiteTyped.typed.Goals as goal
+
+pub returns : goal.returns
+returns c = search rules
