@@ -1,2 +1,3 @@
+pub mod Opening
 pub mod Typed
 pub mod Words

@@ -1,6 +1,6 @@
 -- The search that closes it is named, so that a wrong body is refused without the longer ones.
 use Rattle.std.proofs.Common.{rules}
-use Rattle.commands.proofs.trouble.TroubleFromShareRefused.from.Goals as goal
+use Rattle.commands.proofs.opening.shared.Goals as goal
 
 pub returns : goal.returns
-returns g c = search rules
+returns c = search rules
