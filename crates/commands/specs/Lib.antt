@@ -1,3 +1,5 @@
+pub mod Asking
 pub mod Opening
+pub mod Surveying
 pub mod Typed
 pub mod Words

@@ -1,4 +1,9 @@
 // What a set of lines would ask of a supply, without touching the roster.
+ghost use Rattle.commands.specs.Surveying.{FirstUntaken, Surveys, TakenBefore, untaken_text};
+ghost use Rattle.lines.specs.Of.{rows_of, watched};
+ghost use Rattle.lines.specs.Rest.{full_list};
+ghost use Rattle.std.specs.Prelude.{◌≡◌, MatchResult, Some, length, string_bytes};
+
 use crate::answers::text;
 use crate::trouble::Trouble;
 use lines::{Lines, Row, WatchList};
@@ -16,6 +21,8 @@ struct Untaken {
 }
 
 impl fmt::Display for Untaken {
+    ghost output = { λ untaken. Some (untaken_text untaken) };
+
     fn fmt<W: fmt::Write>(&self, f: &mut fmt::Formatter<W>) -> fmt::Result {
         let Untaken { number, refusal } = *self;
         write!(f, "{refusal} (line {number} of the survey)\n")
@@ -23,7 +30,9 @@ impl fmt::Display for Untaken {
 }
 
 // The lines of a survey and their full watch list.
-fn taken(rows: &[Row]) -> Result<(Lines, WatchList), Untaken> {
+fn taken(rows: &[Row]) -> Result<(Lines, WatchList), Untaken>
+    ensures { MatchResult result (λ made. TakenBefore rows.now (length rows.now) × (rows_of made.0 ≡ rows.now) × (watched made.1 ≡ full_list rows.now)) (λ untaken. FirstUntaken rows.now untaken) }
+{
     let mut taken = (Lines::none(), WatchList::none());
     for (number, row) in rows.iter().enumerate() {
         match taken.0.add(*row) {
@@ -35,7 +44,9 @@ fn taken(rows: &[Row]) -> Result<(Lines, WatchList), Untaken> {
 }
 
 // The survey of rows on a supply, or the refusal of the first that can't be taken.
-pub(crate) fn survey<S: Supply>(heap: Global, supply: &S, rows: &[Row]) -> Result<String, Trouble> {
+pub(crate) fn survey<S: Supply>(heap: Global, supply: &S, rows: &[Row]) -> Result<String, Trouble>
+    ensures { MatchResult result (λ answer. Surveys (S.meaning supply.now) rows.now (string_bytes answer)) (λ trouble. trouble ≡ Trouble.Memory) }
+{
     match taken(rows) {
         Ok((lines, watched)) => {
             let survey = Survey {
