@@ -6,8 +6,9 @@ use Rattle.commands.specs.declared.trouble.Trouble.{Trouble}
 use Rattle.commands.specs.declared.trouble.Trouble.TheVariants.{Usage, Refused, Sheet, Memory}
 use Rattle.commands.specs.declared.usage.Usage.TheVariants.{Open}
 use Rattle.grammar.specs.declared.fields.Fields.{Fields}
-use Rattle.grammar.specs.declared.fields.TheConstants.Fields.{WHOLE}
-use Rattle.supply.specs.Making.{LawfulShare, no_share, no_timetable}
+use Rattle.refusal.specs.declared.reason.Reason.TheVariants.{ShareUnlawful, TimetableUnlawful}
+use Rattle.supply.specs.Making.{by_supply}
+use Rattle.supply.specs.Share.{LawfulShare}
 use Rattle.supply.specs.Timetable.{LawfulTimetable}
 use Rattle.supply.specs.Whole.{whole}
 
@@ -15,7 +16,7 @@ use Rattle.supply.specs.Whole.{whole}
 abbrev pub NamesTimetable : (length word : List ℕ) → Result Fields Trouble → Type 0
 NamesTimetable l w (Ok fields) = IsNumber 8 l × IsNumber 64 w × LawfulTimetable (number_of l) (number_of w) × (fields ≡ record { length = number_of l; word = number_of w; share = 0; of = 0 })
 NamesTimetable l w (Err (Usage usage)) = ¬ (IsNumber 8 l × IsNumber 64 w) × (usage ≡ Open)
-NamesTimetable l w (Err (Refused refusal)) = IsNumber 8 l × IsNumber 64 w × ¬ LawfulTimetable (number_of l) (number_of w) × (refusal ≡ no_timetable)
+NamesTimetable l w (Err (Refused refusal)) = IsNumber 8 l × IsNumber 64 w × ¬ LawfulTimetable (number_of l) (number_of w) × (refusal ≡ by_supply TimetableUnlawful)
 NamesTimetable l w (Err (Sheet refusal)) = ⊥
 NamesTimetable l w (Err Memory) = ⊥
 
@@ -23,7 +24,7 @@ NamesTimetable l w (Err Memory) = ⊥
 abbrev pub NamesShare : Fields → (s f : List ℕ) → Result Fields Trouble → Type 0
 NamesShare below s f (Ok fields) = IsNumber 8 s × IsNumber 8 f × LawfulShare whole (number_of s) (number_of f) × (fields ≡ record below { share = number_of s; of = number_of f })
 NamesShare below s f (Err (Usage usage)) = ¬ (IsNumber 8 s × IsNumber 8 f) × (usage ≡ Open)
-NamesShare below s f (Err (Refused refusal)) = IsNumber 8 s × IsNumber 8 f × ¬ LawfulShare whole (number_of s) (number_of f) × (refusal ≡ no_share)
+NamesShare below s f (Err (Refused refusal)) = IsNumber 8 s × IsNumber 8 f × ¬ LawfulShare whole (number_of s) (number_of f) × (refusal ≡ by_supply ShareUnlawful)
 NamesShare below s f (Err (Sheet refusal)) = ⊥
 NamesShare below s f (Err Memory) = ⊥
 
@@ -37,9 +38,13 @@ IsTimetable words = (length words ≡ 3) × (word_at words 0 ≡ codes "timetabl
 abbrev pub EndsInShare : List (Bor (List ℕ)) → Type 0
 EndsInShare words = (3 ≤ length words) × (word_at words (length words - 3) ≡ codes "share")
 
+-- The fields of the whole processor.
+abbrev pub whole_fields : Fields
+whole_fields = record { length = 0; word = 0; share = 0; of = 0 }
+
 -- What words without a share name: the whole processor or a timetable, and nothing where they have neither form.
 pub record NamesBottom (words : List (Bor (List ℕ))) (named : Result Fields Trouble) : Type 0 where
-  pub whole_processor : IsWhole words → named ≡ Ok WHOLE
+  pub whole_processor : IsWhole words → named ≡ Ok whole_fields
   pub a_timetable : IsTimetable words → NamesTimetable (word_at words 1) (word_at words 2) named
   pub no_form : ¬ IsWhole words → ¬ IsTimetable words → named ≡ Err (Usage Open)
 

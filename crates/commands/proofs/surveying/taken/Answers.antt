@@ -16,7 +16,7 @@ pub loop-number-preserved : goal.loop-number-preserved
 loop-number-preserved c =
     let one_more = take_more c.args.rows.now c.loop-number.number no_row c.loop-number-test.true in
     record {
-      lines = c.in-Ok.ensures.1.0 ∙ (rw c.loop-number.invariant.lines (sym one_more));
-      deadlines = c.in-Ok.ensures.1.1;
-      taken = below_more _ _ c.loop-number.invariant.taken (rw c.loop-number.invariant.lines at c.in-Ok.ensures.0);
+      lines = c.in-Ok.ensures.added_last_or_refused_by_checks.1.0 ∙ (rw c.loop-number.invariant.lines (sym one_more));
+      deadlines = c.in-Ok.ensures.added_last_or_refused_by_checks.1.1;
+      taken = below_more _ _ c.loop-number.invariant.taken (rw c.loop-number.invariant.lines at c.in-Ok.ensures.added_last_or_refused_by_checks.0);
     }
