@@ -42,8 +42,8 @@ fn bottom(words: &[&str]) -> Result<Fields, Trouble>
     }
 }
 
-// The fields of the supply that is named: a bottom, alone or with a share of it. It only reads the
-// notation: which supply the fields are is the promise of `supply_of`.
+// The fields of the supply that is named: a bottom, alone or with a share of it. (Which supply fields are is the promise of
+// `supply_of`.)
 pub fn named(words: &[&str]) -> Result<Fields, Trouble>
     ensures plain_by_its_words { ¬ (EndsInShare words.now) → NamesBottom words.now result }
     ensures share_over_what_stands_in_front { EndsInShare words.now → NamesShareOver words.now result }

@@ -21,11 +21,11 @@ returns c =
     let here : rows_in c.judged-roster.result.roster ≡ lines_of c.args.lines.now = search rules in
     let on = λ (holds : List Row → Type 0) (h : holds (rows_in c.judged-roster.result.roster)). subst holds here h in
     subst (Ran c.args.lines.now jobs before after) (sym c.ok-2.ensures.value) (
-      ended_by c.args.lines.now jobs before c.loop.slots after full c.loop.invariant long r
-        (on (λ rows. Answered r (run_checks rows jobs (length c.loop.slots)) (λ _. Unit {0})) said.refused_by_checks)
-        said.refusal_leaves_slots
-        (on (λ rows. IfOk r (λ o. ByLaw whole 0 rows jobs after o)) said.slots_follow_edf)
-        (on (λ rows. IfOk r (λ o. WellWritten whole 0 rows jobs after o)) said.entries_well_written)
-        (on (λ rows. IfOk r (λ o. MetExactly whole 0 rows jobs after o)) said.met_exactly)
-        (on (λ rows. IfOk r (λ o. MissFinal whole 0 rows jobs o)) said.miss_is_final)
+    ended_by c.args.lines.now jobs before c.loop.slots after full c.loop.invariant long r
+    (on (λ rows. Answered r (run_checks rows jobs (length c.loop.slots)) (λ _. Unit {0})) said.refused_by_checks)
+    said.refusal_leaves_slots
+    (on (λ rows. IfOk r (λ o. ByLaw whole 0 rows jobs after o)) said.slots_follow_edf)
+    (on (λ rows. IfOk r (λ o. WellWritten whole 0 rows jobs after o)) said.entries_well_written)
+    (on (λ rows. IfOk r (λ o. MetExactly whole 0 rows jobs after o)) said.met_exactly)
+    (on (λ rows. IfOk r (λ o. MissFinal whole 0 rows jobs o)) said.miss_is_final)
     )
