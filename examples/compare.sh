@@ -13,10 +13,10 @@ if [ "${1:-}" != --over-gate ]; then
     done
 fi
 
-# Gives a program an example, and compares what it prints.
+# Gives a program an example, and compares what it prints. A minute is more than any takes.
 compare() {
     program=$1 input=$2 stored=$3
-    "crates/$program/out/$program" <"$input" >"$out/printed"
+    timeout 60 "crates/$program/out/$program" <"$input" >"$out/printed"
     cmp "$out/printed" "$stored"
     echo "$input: as stored"
 }
@@ -28,5 +28,13 @@ for sheet in examples/*.sheet; do
     compare report "$sheet" "${sheet%.sheet}.report"
 done
 
-# An input without an end is longer than a sheet may be, and is refused all the same.
+# An input without an end is longer than a sheet may be, and is refused all the same: of a long one so much is read as decides.
 compare report /dev/zero examples/endless.report
+head -c 20000 /dev/zero >"$out/long"
+{
+    crates/report/out/report >"$out/printed"
+    cat >"$out/left"
+} <"$out/long"
+cmp "$out/printed" examples/endless.report
+[ "$(wc -c <"$out/left")" -eq 3615 ]
+echo "20,000 bytes: as stored, and 3,615 are not read"

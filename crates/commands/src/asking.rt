@@ -41,8 +41,8 @@ pub fn ask<S: Supply>(
     name: &str,
     words: &[&str],
 ) -> Result<String, Trouble>
-    ensures count_by_the_meaning { name.now ≡ codes "count" → Told string_bytes (CountWords words.now) (count_line (S.meaning supply.now) words.now) (Trouble.Usage Usage.Count) result }
-    ensures least_by_the_meaning { name.now ≡ codes "least" → Told string_bytes (LeastWords words.now) (least_line (S.meaning supply.now) words.now) (Trouble.Usage Usage.Least) result }
+    ensures count_in_that_phase_or_usage { name.now ≡ codes "count" → Told string_bytes (CountWords words.now) (count_line (S.meaning supply.now) words.now) (Trouble.Usage Usage.Count) result }
+    ensures fewest_slots_or_usage { name.now ≡ codes "least" → Told string_bytes (LeastWords words.now) (least_line (S.meaning supply.now) words.now) (Trouble.Usage Usage.Least) result }
     ensures survey_or_the_first_untaken { name.now ≡ codes "survey" → MatchResult result (λ answer. (rows : _) × SpellLines words.now rows × Surveys (S.meaning supply.now) rows (string_bytes answer)) (λ trouble. (trouble ≡ Trouble.Memory) ⊎ (SomeSpellsNoLine words.now × (trouble ≡ Trouble.Usage Usage.Survey))) }
     ensures other_names_are_unknown { name.now ≢ codes "count" → name.now ≢ codes "least" → name.now ≢ codes "survey" → result ≡ Err (Trouble.Usage Usage.Command) }
 {
@@ -59,7 +59,7 @@ pub fn ask<S: Supply>(
 
 // What is answered where a supply was opened.
 pub fn opened<S: Supply>(heap: Global, supply: &S) -> Result<String, Trouble>
-    ensures phases_by_the_meaning { MatchResult result (λ answer. string_bytes answer ≡ codes "opened phases" ++ (codes " " ++ (decimal (S.meaning supply.now).phases ++ codes "\n"))) (λ trouble. trouble ≡ Trouble.Memory) }
+    ensures tells_the_phases { MatchResult result (λ answer. string_bytes answer ≡ codes "opened phases" ++ (codes " " ++ (decimal (S.meaning supply.now).phases ++ codes "\n"))) (λ trouble. trouble ≡ Trouble.Memory) }
 {
     figure(heap, "opened phases", supply.phases())
 }

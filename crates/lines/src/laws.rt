@@ -15,9 +15,9 @@ use crate::table::Lines;
 pub fn line_counts_and_rests_by_its_jobs(line: &Line)
     ensures counts_just_the_jobs_due { (t k : ℕ) → (k < count line.now.row t) ↔ (deadline_of line.now.row k ≤ t) }
     ensures counts_as_many_as_are_due { (t n : ℕ) → t ≤ n → count line.now.row t ≡ how_many (λ k. nat_le (deadline_of line.now.row k) t) n }
-    ensures deadline_after_is_the_first_later { (t k : ℕ) → (t < deadline_of line.now.row k) ↔ (deadline_after line.now.row t ≤ deadline_of line.now.row k) }
+    ensures deadline_after_is_the_first_later { (t : ℕ) → (deadline_after line.now.row t ≡ deadline_of line.now.row (count line.now.row t)) × ((k : ℕ) → (t < deadline_of line.now.row k) ↔ (deadline_after line.now.row t ≤ deadline_of line.now.row k)) }
     ensures rests_where_no_job_lies_across { (t : ℕ) → (resting t line.now.row ≡ true) ↔ ((k : ℕ) → release_of line.now.row k < t → deadline_of line.now.row k ≤ t) }
-    ensures count_splits_at_rest_points { LineLaws line.now.row }
+    ensures count_and_work_grow_and_split { LineLaws line.now.row }
 {}
 
 // The hyperperiod is the least common multiple, and the first rest point comes no later.

@@ -52,7 +52,8 @@ returns-then-slots-from-clause-refused_by_checks g c =
     let taken = c.in_ok-list.ensures in
     let last = last_is c.in_ok-list.list c.args.lines.now jobs taken.1.0 taken.1.1 in
     let short = too_short rows jobs (length c.args.slots.now) taken.0 (omega (arith, c.if-slots-from.true, c.from.ensures, last)) in
-    let named = c.refused.ensures ∙ ap run_refusal (c.from-then-slots-from.ensures ∙ last) in
+    let needed : c.from-then-slots-from.result ≡ horizon rows jobs = omega (arith, c.from-then-slots-from.ensures, last) in
+    let named = c.refused.ensures ∙ ap run_refusal needed in
     short ∙ ap Some (sym named)
 
 pub returns : goal.returns
