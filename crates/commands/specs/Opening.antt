@@ -5,6 +5,7 @@ use Rattle.commands.specs.Words.{IsNumber, number_of, word_at}
 use Rattle.commands.specs.declared.trouble.Trouble.{Trouble}
 use Rattle.commands.specs.declared.trouble.Trouble.TheVariants.{Usage, Refused, Sheet, Memory}
 use Rattle.commands.specs.declared.usage.Usage.TheVariants.{Open}
+use Rattle.grammar.specs.Supplies.{whole_fields}
 use Rattle.grammar.specs.declared.fields.Fields.{Fields}
 use Rattle.refusal.specs.declared.reason.Reason.TheVariants.{ShareUnlawful, TimetableUnlawful}
 use Rattle.supply.specs.Making.{by_supply}
@@ -14,7 +15,7 @@ use Rattle.supply.specs.Whole.{whole}
 
 -- A timetable is named by its length and its number.
 abbrev pub NamesTimetable : (length word : List ℕ) → Result Fields Trouble → Type 0
-NamesTimetable l w (Ok fields) = IsNumber 8 l × IsNumber 64 w × LawfulTimetable (number_of l) (number_of w) × (fields ≡ record { length = number_of l; word = number_of w; share = 0; of = 0 })
+NamesTimetable l w (Ok fields) = IsNumber 8 l × IsNumber 64 w × LawfulTimetable (number_of l) (number_of w) × (fields ≡ record whole_fields { length = number_of l; word = number_of w })
 NamesTimetable l w (Err (Usage usage)) = ¬ (IsNumber 8 l × IsNumber 64 w) × (usage ≡ Open)
 NamesTimetable l w (Err (Refused refusal)) = IsNumber 8 l × IsNumber 64 w × ¬ LawfulTimetable (number_of l) (number_of w) × (refusal ≡ by_supply TimetableUnlawful)
 NamesTimetable l w (Err (Sheet refusal)) = ⊥
@@ -37,10 +38,6 @@ IsTimetable words = (length words ≡ 3) × (word_at words 0 ≡ codes "timetabl
 
 abbrev pub EndsInShare : List (Bor (List ℕ)) → Type 0
 EndsInShare words = (3 ≤ length words) × (word_at words (length words - 3) ≡ codes "share")
-
--- The fields of the whole processor.
-abbrev pub whole_fields : Fields
-whole_fields = record { length = 0; word = 0; share = 0; of = 0 }
 
 -- What words without a share name: the whole processor or a timetable, and nothing where they have neither form.
 pub record NamesBottom (words : List (Bor (List ℕ))) (named : Result Fields Trouble) : Type 0 where

@@ -6,6 +6,16 @@ use Rattle.lines.specs.declared.row.Row.{Row}
 use Rattle.roster.specs.declared.cite.Cite.{Cite}
 use Rattle.run.specs.declared.job.Job.{Job}
 
+-- The signs between the numbers of a word: / and : and @.
+abbrev pub slash : ℕ
+slash = 47
+
+abbrev pub colon : ℕ
+colon = 58
+
+abbrev pub at_sign : ℕ
+at_sign = 64
+
 -- The parts of a word around the first of a sign, where it has one.
 abbrev pub Has : (sign : ℕ) → List ℕ → Type 0
 Has sign word = position_or_len (λ b. b == sign) word < length word
@@ -16,22 +26,22 @@ before sign word = before_first (λ b. b == sign) word
 abbrev pub after : (sign : ℕ) → List ℕ → List ℕ
 after sign word = after_first (λ b. b == sign) word
 
--- T/D/C: the period, the deadline and the cost of a line. The sign / is 47.
+-- T/D/C: the period, the deadline and the cost of a line.
 abbrev pub SpellsRow : List ℕ → Row → Type 0
-SpellsRow word row = Has 47 word × Has 47 (after 47 word)
-    × IsNumber 16 (before 47 word) × (row.period ≡ number_of (before 47 word))
-    × IsNumber 16 (before 47 (after 47 word)) × (row.deadline ≡ number_of (before 47 (after 47 word)))
-    × IsNumber 16 (after 47 (after 47 word)) × (row.cost ≡ number_of (after 47 (after 47 word)))
+SpellsRow word row = Has slash word × Has slash (after slash word)
+    × IsNumber 16 (before slash word) × (row.period ≡ number_of (before slash word))
+    × IsNumber 16 (before slash (after slash word)) × (row.deadline ≡ number_of (before slash (after slash word)))
+    × IsNumber 16 (after slash (after slash word)) × (row.cost ≡ number_of (after slash (after slash word)))
 
--- C:W: a deadline that is cited, and its weight. The sign : is 58.
+-- C:W: a deadline that is cited, and its weight.
 abbrev pub SpellsCite : List ℕ → Cite → Type 0
-SpellsCite word cite = Has 58 word
-    × IsNumber 16 (before 58 word) × (cite.deadline ≡ number_of (before 58 word))
-    × IsNumber 16 (after 58 word) × (cite.weight ≡ number_of (after 58 word))
+SpellsCite word cite = Has colon word
+    × IsNumber 16 (before colon word) × (cite.deadline ≡ number_of (before colon word))
+    × IsNumber 16 (after colon word) × (cite.weight ≡ number_of (after colon word))
 
--- I@R:C: the line of a job, its release and its cost. The sign @ is 64.
+-- I@R:C: the line of a job, its release and its cost.
 abbrev pub SpellsJob : List ℕ → Job → Type 0
-SpellsJob word job = Has 64 word × Has 58 (after 64 word)
-    × IsNumber 8 (before 64 word) × (job.line ≡ number_of (before 64 word))
-    × IsNumber 16 (before 58 (after 64 word)) × (job.release ≡ number_of (before 58 (after 64 word)))
-    × IsNumber 16 (after 58 (after 64 word)) × (job.cost ≡ number_of (after 58 (after 64 word)))
+SpellsJob word job = Has at_sign word × Has colon (after at_sign word)
+    × IsNumber 8 (before at_sign word) × (job.line ≡ number_of (before at_sign word))
+    × IsNumber 16 (before colon (after at_sign word)) × (job.release ≡ number_of (before colon (after at_sign word)))
+    × IsNumber 16 (after colon (after at_sign word)) × (job.cost ≡ number_of (after colon (after at_sign word)))

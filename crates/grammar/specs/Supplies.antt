@@ -8,6 +8,10 @@ use Rattle.supply.specs.Share.{share}
 use Rattle.supply.specs.Timetable.{timetable}
 use Rattle.supply.specs.Whole.{whole}
 
+-- The fields of the whole processor.
+abbrev pub whole_fields : Fields
+whole_fields = record { length = 0; word = 0; share = 0; of = 0 }
+
 -- Length 0 with number 0 is the whole processor; any other pair is a timetable.
 abbrev pub no_timetable : Fields → Bool
 no_timetable fields = fields.length == 0 && fields.word == 0

@@ -1,4 +1,4 @@
-ghost use Rattle.grammar.specs.Supplies.{field_checks, supply_of};
+ghost use Rattle.grammar.specs.Supplies.{field_checks, supply_of, whole_fields};
 ghost use Rattle.refusal.specs.Answers.{refusal_of};
 ghost use Rattle.std.specs.Prelude.{◌≡◌};
 ghost use Rattle.supply.specs.Whole.{whole};
@@ -16,7 +16,7 @@ pub struct Fields {
 impl Fields {
     // Those of the whole processor.
     pub fn whole() -> Fields
-        ensures all_are_zero { result ≡ record { length = 0; word = 0; share = 0; of = 0 } }
+        ensures all_are_zero { result ≡ whole_fields }
         ensures no_check_fails { refusal_of (field_checks result) ≡ None }
         ensures names_the_whole_processor { supply_of result ≡ whole }
     {
