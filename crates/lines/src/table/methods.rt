@@ -67,7 +67,7 @@ impl Lines {
     pub fn get(&self, number: usize) -> Option<Line>
         ensures line_of_that_number { MatchOption result (length (rows_of self.now) ≤ number) (λ line. (number < length (rows_of self.now)) × (line.row ≡ slice_index_or (rows_of self.now) number no_row)) }
     {
-        self.iter().nth(number)
+        self.rows.as_slice().get(number).map(|row| Line::of(*row))
     }
 
     // The lines with one more, which gets the next number, and their full watch list.
