@@ -26,7 +26,17 @@ impl<'a> Iterator for LineIter<'a> {
 
     fn next(&mut self) -> Option<Line> {
         let (first, others) = self.rows.split_first()?;
-        let line = Line::of(*first);
+        // Field by field: a row that is copied whole is loaded as one number, and taken apart again for each figure.
+        let Row {
+            period,
+            deadline,
+            cost,
+        } = *first;
+        let line = Line::of(Row {
+            period,
+            deadline,
+            cost,
+        });
         self.rows = others;
         Some(line)
     }
