@@ -23,8 +23,8 @@ impl<'a> Row<'a> {
         DUE
     }
 
-    // Puts a mark at an instant, behind so many characters of the row, and answers how many there are then. A mark that
-    // would stand before the end of the row is left out, and so is one outside the columns.
+    // Puts a mark at an instant of the columns, behind so many characters of the row, and answers how many there are then. A mark
+    // that would stand before the end of the row is left out.
     fn put<W: fmt::Write>(
         &self,
         f: &mut fmt::Formatter<W>,
@@ -33,7 +33,7 @@ impl<'a> Row<'a> {
         mark: char,
     ) -> Result<usize, fmt::Error> {
         let length = at.saturating_sub(self.columns.start).saturating_add(9);
-        if length <= written || !self.columns.contains(&at) {
+        if length <= written {
             return Ok(written);
         }
         let width = length - written;
@@ -41,14 +41,20 @@ impl<'a> Row<'a> {
         Ok(length)
     }
 
-    // The marks of the line. Where there are none, there is no row for them.
+    // The marks of the line. Where there are none, there is no row for them. (Which mark an instant has is asked inside the columns
+    // alone, since it takes a walk over the jobs.)
     pub(crate) fn marks<W: fmt::Write>(&self, f: &mut fmt::Formatter<W>) -> fmt::Result {
         let mut written = 0;
         for job in self.chart.run.jobs {
             if self.owns(*job) {
+                let release = usize::from(job.release);
                 let due = usize::from(due(self.chart.run.lines, *job));
-                written = self.put(f, written, usize::from(job.release), RELEASE)?;
-                written = self.put(f, written, due, self.due_mark(due))?;
+                if self.columns.contains(&release) {
+                    written = self.put(f, written, release, RELEASE)?;
+                }
+                if self.columns.contains(&due) {
+                    written = self.put(f, written, due, self.due_mark(due))?;
+                }
             }
         }
         if written > 0 {

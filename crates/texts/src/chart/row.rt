@@ -86,12 +86,19 @@ impl<'a> Row<'a> {
         Ok(())
     }
 
+    // Whether a job of the line may want a slot of the columns: it comes before their end, and is due behind their beginning.
+    fn reaches(&self, job: Job) -> bool {
+        self.owns(job)
+            && usize::from(job.release) < self.columns.end
+            && usize::from(due(self.chart.run.lines, job)) > self.columns.start
+    }
+
     // The slots of the line: those before each of its jobs, those of the job, and those behind the last.
     fn slots<W: fmt::Write>(&self, f: &mut fmt::Formatter<W>) -> fmt::Result {
         let to = self.columns.end;
         let mut at = self.columns.start;
         for (place, job) in self.chart.run.jobs.iter().enumerate() {
-            if self.owns(*job) && usize::from(job.release) < to {
+            if self.reaches(*job) {
                 let release = usize::from(job.release).max(at);
                 self.signs(f, at, release, None)?;
                 at = self.settled(place, *job).min(to).max(release);
