@@ -9,8 +9,8 @@ pub trait Obey {
     fn obey(&mut self, name: &str, words: &[&str]) -> Result<String, Trouble>;
 }
 
-// Answers each line as it comes, to the end of the input. (No clause: it only hands lines on and prints, and the library promises
-// nothing of what is read or let out.)
+// Answers each line as it comes, to the end of the input; where there is no answer, nothing is printed. (No clause: it only hands
+// lines on and prints, and the library promises nothing of what is read or let out.)
 pub fn converse<R: Input + Print + AllocGlobal, S: Obey>(
     rt: &R,
     session: &mut S,
@@ -19,7 +19,9 @@ pub fn converse<R: Input + Print + AllocGlobal, S: Obey>(
     let input = BufReader::new(heap, rt.reader())?;
     for line in input.split(heap, b'\n') {
         let answer = answer(session, heap, line?.as_slice())?;
-        rt.print(answer)?;
+        if !answer.is_empty() {
+            rt.print(answer)?;
+        }
     }
     Ok(())
 }
